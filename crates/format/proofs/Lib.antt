@@ -1,0 +1,10 @@
+pub mod Steps
+pub mod Round
+pub mod Words
+pub mod Channels
+pub mod Instructions
+pub mod Fronts
+pub mod Files
+pub mod Steady
+pub mod Encoded
+pub mod Theorems

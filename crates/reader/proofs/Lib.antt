@@ -1,0 +1,4 @@
+pub mod Taken
+pub mod Many
+pub mod Heads
+pub mod Whole

@@ -1,0 +1,4 @@
+pub mod Flaws
+pub mod Kinds
+pub mod Laws
+pub mod Model
