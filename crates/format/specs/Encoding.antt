@@ -4,7 +4,7 @@ use mathlib.Core.Bool.{cond}
 use mathlib.Core.List.{List, [], _∷_, _++_}
 use Prim.Native.Nat.{ℕ, _+_, _*_}
 use lib.Dec.{eqb}
-use lib.ListN.{length}
+use lib.ListN.{length, take}
 use mir.Val.{ofZ}
 use mir.Syntax.{w32}
 use Rattle.std.specs.Joined.{joined}
@@ -70,3 +70,11 @@ encodeModel s =
 -- the file of a script
 abbrev pub encode : Script → List ℕ
 encode s = encodeModel (modelOf s)
+
+-- the byte that the record of channel k begins at
+abbrev pub channelStart : Model → ℕ → ℕ
+channelStart s k = 2 + length (joined encodeChannel (take k (s .channels)))
+
+-- the byte that the record of instruction k begins at
+abbrev pub instructionStart : Model → ℕ → ℕ
+instructionStart s k = 4 + length (joined encodeChannel (s .channels)) + length (joined encodeInstruction (take k (s .instructions)))
