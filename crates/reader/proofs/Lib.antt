@@ -2,3 +2,4 @@ pub mod Taken
 pub mod Many
 pub mod Heads
 pub mod Whole
+pub mod Cuts

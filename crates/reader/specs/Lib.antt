@@ -1,3 +1,4 @@
 pub mod Outcomes
 pub mod Listed
 pub mod Parsed
+pub mod Split

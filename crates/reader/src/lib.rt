@@ -3,4 +3,4 @@ mod channel;
 mod field;
 pub mod file;
 mod instruction;
-//pub mod split;
+pub mod split;

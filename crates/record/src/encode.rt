@@ -19,7 +19,10 @@ impl RecordBytes {
         ensures none { λ r. ⌜ held r ≡ [] ⌝ }
         ensures len { λ r. ⌜ r .len ≡ 0 ⌝ }
     {
-        RecordBytes { bytes: [0; 12], len: 0 }
+        RecordBytes {
+            bytes: [0; 12],
+            len: 0,
+        }
     }
 
     // The record's bytes.
@@ -102,7 +105,10 @@ fn channel_map(code: u8, level: u8) -> u8
 fn instruction_map(f: Fields) -> u8
     ensures { λ r. ⌜ r ≡ mapOf (fieldValues f) ⌝ }
 {
-    let low = bit(f.kind != 0) + 2 * bit(f.target != 0) + 4 * bit(f.first != 0) + 8 * bit(f.second != 0);
+    let low = bit(f.kind != 0)
+        + 2 * bit(f.target != 0)
+        + 4 * bit(f.first != 0)
+        + 8 * bit(f.second != 0);
     low + 16 * bit(f.number != 0) + 32 * bit(f.place != 0) + 64 * bit(f.channel != 0)
 }
 

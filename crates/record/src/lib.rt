@@ -1,4 +1,4 @@
 // One record of a script file in bytes, for writing it and for knowing how long it is.
-pub mod encode;
 pub mod buffer;
+pub mod encode;
 pub mod length;

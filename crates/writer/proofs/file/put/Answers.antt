@@ -1,0 +1,11 @@
+use mathlib.Core.Path.{_≡_, refl}
+use Prim.Native.Nat.{_+_, _-_}
+use native.Mathlib.Omega.{arith}
+use lib.ListN.{length}
+use Rattle.writer.proofs.Puts.{put-is}
+use Rattle.writer.proofs.file.put.Needs as need
+
+pub returns : need.returns
+returns c =
+    let k : c .args .at + length (c .args .bytes .now) - c .args .at ≡ length (c .args .bytes .now) = omega arith in
+    record { end = refl; holds = put-is (c .args .at) _ (c .args .out .now) _ _ (c .copy-from-slice .ensures .after) k }
