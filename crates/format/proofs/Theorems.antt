@@ -29,7 +29,7 @@ use Rattle.format.specs.Numbers.{bytesOf, Bytes}
 use Rattle.format.specs.Encoding.{encode, encodeModel, encodeChannel, encodeInstruction, channelWidths, instructionWidths}
 use Rattle.format.specs.Rules.{fault, channelRules, instructionRules}
 use Rattle.format.specs.Reading.{andThen, readFile, readTail, readHead, readChannels, readChannel, channelOf, readCount, readInstructions, readInstruction, instructionOf}
-use Rattle.format.specs.Refusals.{Refused, Reads, No-script, Channels-right, Instructions-right}
+use Rattle.format.specs.Refusals.{Refused, Reads, Reads-back, No-script, Channels-right, Instructions-right}
 use Rattle.format.specs.Laws.{One-file, One-refusal, Accepted-or-refused, Accepted-not-refused, Prefix-is-short, Tail-exactly, Appended-same, Byte-within, Every-byte-within, In-its-record}
 use Rattle.format.proofs.Fronts.{step, stop, andThen-err, fromTail, fromInstructions, fromCount, fromChannels, fromWidth, fromLevels}
 use Rattle.format.proofs.Steady.{Told, Steady, steady-none, steady-then, steady-many, steady-head, steady-count, steady-channel, steady-instruction, Lies, record-told, channel-local, instruction-local}
@@ -308,3 +308,8 @@ in-instruction-record bs f i (Refused.in-tail s b rest h e g) p = let q = ap (λ
 
 pub in-its-record : In-its-record
 in-its-record = record { channel = in-channel-record; instruction = in-instruction-record }
+
+-- a script's file is read back as that script
+pub read-back : (bs : List ℕ) (r : Result Script Fault) → Reads bs r → Reads-back bs r
+read-back bs (Ok t) e s d = ap Ok (one-file t s (e ∙ sym d))
+read-back bs (Err f) e s d = absurd (e .1 s d)

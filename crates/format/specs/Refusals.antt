@@ -6,7 +6,7 @@ use lib.ListN.{length}
 use Rattle.std.specs.Joined.{joined}
 use Rattle.std.specs.Results.{Cases}
 use Rattle.std.specs.declared.result.Result.{Result}
-use Rattle.std.specs.declared.result.Result.the-variants.{Err}
+use Rattle.std.specs.declared.result.Result.the-variants.{Ok, Err}
 use Rattle.refusal.specs.declared.Refusal.the-variants as why
 use Rattle.refusal.specs.declared.Part.the-variants as part
 use Rattle.refusal.specs.declared.Fault.{Fault}
@@ -50,3 +50,7 @@ No-script bs = (s : Script) → encode s ≡ bs → ⊥
 -- what reading answers: the script whose file it is, or the first fault, where it is the file of none
 abbrev pub Reads : List ℕ → Result Script Fault → Type 0
 Reads bs r = Cases r (λ s. encode s ≡ bs) (λ f. Refused bs f × No-script bs)
+
+-- the file of a script is read back as that script
+abbrev pub Reads-back : List ℕ → Result Script Fault → Type 0
+Reads-back bs r = (s : Script) → encode s ≡ bs → r ≡ Ok s

@@ -14,7 +14,7 @@ use Rattle.script.proofs.Held.{channels-held, instructions-held}
 use Rattle.format.specs.Numbers.{bytesOf}
 use Rattle.format.specs.Encoding.{encodeModel, encode, encodeChannel, encodeInstruction, channelStart, instructionStart}
 use Rattle.reader.specs.Split.{Stands}
-use Rattle.record.proofs.Lengths.{longer}
+use Rattle.record_writer.proofs.Lengths.{longer}
 
 -- the records before k, record k, and the rest
 joined-at : {X : Type 0} (enc : X → List ℕ) (xs : List X) (k : ℕ) (d : X) → k < length xs → (rest : List ℕ) × (joined enc xs ≡ joined enc (take k xs) ++ (enc (getD xs k d) ++ rest))

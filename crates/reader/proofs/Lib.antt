@@ -1,4 +1,3 @@
-pub mod Taken
 pub mod Many
 pub mod Heads
 pub mod Whole

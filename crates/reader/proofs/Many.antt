@@ -8,7 +8,7 @@ use lib.ListN.{length, take, set, replicate, length-replicate, length-set}
 use Rattle.std.proofs.shelf.Lists.{take-more-set}
 use Rattle.script.specs.Laws.{Blank}
 use Rattle.script.proofs.Tables.{blank-all, blank-more}
-use Rattle.reader.specs.Outcomes.{Filled}
+use Rattle.reader.specs.Filled.{Filled}
 use Rattle.std.specs.declared.result.Result.{Result}
 use Rattle.std.specs.declared.result.Result.the-variants.{Ok, Err}
 use Rattle.refusal.specs.declared.Fault.{Fault}

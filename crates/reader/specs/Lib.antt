@@ -1,4 +1,3 @@
-pub mod Outcomes
-pub mod Listed
+pub mod Filled
 pub mod Parsed
 pub mod Split

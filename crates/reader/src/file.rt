@@ -6,11 +6,13 @@ ghost use Rattle.std.specs.Results.{Cases};
 ghost use Rattle.script.specs.Laws.{Blank, Counted, blank};
 ghost use Rattle.script.specs.declared.parts.Instruction.the-variants.{Skip};
 ghost use Rattle.format.specs.Reading.{readChannels, readCount, readFile, readHead, readInstructions};
-ghost use Rattle.format.specs.Refusals.{Reads};
-ghost use Rattle.reader.specs.Outcomes.{Fills, Is, Shrinks};
+ghost use Rattle.format.specs.Refusals.{Reads, Reads-back};
+ghost use Rattle.field.specs.Outcomes.{Is, Shrinks};
+ghost use Rattle.reader.specs.Filled.{Fills};
 ghost use Rattle.reader.specs.Parsed.{Parses};
-use crate::channel::read_channel;
-use crate::instruction::read_instruction;
+use format::layout::Site;
+use record_reader::channel::read_channel;
+use record_reader::instruction::read_instruction;
 use refusal::Fault;
 use refusal::Part;
 use refusal::Refusal;
@@ -85,7 +87,12 @@ fn read_channels<'a>(
     }; 16];
     let mut rest = bytes;
     for i in 0..count {
-        let (channel, after) = read_channel(end, i, levels, rest)?;
+        let site = Site {
+            length: end,
+            part: Part::Channel(i),
+            map_at: end - rest.len(),
+        };
+        let (channel, after) = read_channel(site, levels, rest)?;
         channels[i] = channel;
         rest = after;
     }
@@ -106,7 +113,12 @@ fn read_instructions<'a>(
     let mut instructions = [Instruction::Skip; 256];
     let mut rest = bytes;
     for i in 0..count {
-        let (instruction, after) = read_instruction(end, i, channels, count, rest)?;
+        let site = Site {
+            length: end,
+            part: Part::Instruction(i),
+            map_at: end - rest.len(),
+        };
+        let (instruction, after) = read_instruction(site, channels, count as u16, rest)?;
         instructions[i] = instruction;
         rest = after;
     }
@@ -148,7 +160,8 @@ fn parse(bytes: &[u8]) -> Result<Script, Fault>
 // The script whose file this is, or the first fault of a file that is no script's. Each byte is looked at a bounded
 // number of times.
 pub fn read_script(bytes: &[u8]) -> Result<Script, Fault>
-    ensures { λ r. ⌜ Reads (now (bytes .entry)) r ⌝ }
+    ensures reads { λ r. ⌜ Reads (now (bytes .entry)) r ⌝ }
+    ensures back { λ r. ⌜ Reads-back (now (bytes .entry)) r ⌝ }
 {
     parse(bytes)
 }

@@ -1,15 +1,23 @@
 // Whole files into a buffer.
 ghost use mathlib.Core.Path.{_≡_};
-ghost use Prim.Native.Nat.{_+_, _≤_};
+ghost use Prim.Native.Nat.{_+_, _<_, _^_, _≤_};
 ghost use lib.ListN.{length};
 ghost use Rattle.std.specs.Joined.{joined};
 ghost use Rattle.writer.specs.Written.{Writes, written};
-use record::encode::ChannelRecord;
-use record::encode::FileRecord;
-use record::encode::InstructionRecord;
-pub use record::length::encoded_length;
+use record_writer::encode::ChannelRecord;
+use record_writer::encode::FileRecord;
+use record_writer::encode::InstructionRecord;
+pub use record_writer::length::encoded_length;
 use refusal::Refusal;
 use script::accepted::Script;
+
+// The place after `bytes` that are written from `at` on.
+fn place_after(at: usize, bytes: &[u8]) -> usize
+    requires { ⌜ at + length (now bytes) < 2 ^ 64 ⌝ }
+    ensures { λ r. ⌜ r ≡ at + length (now (bytes .entry)) ⌝ }
+{
+    at + bytes.len()
+}
 
 // Writes the bytes from `at` on, and answers the place after them.
 fn put(out: &mut [u8], at: usize, bytes: &[u8]) -> usize
@@ -17,7 +25,7 @@ fn put(out: &mut [u8], at: usize, bytes: &[u8]) -> usize
     ensures end { λ r. ⌜ r ≡ at + length (now (bytes .entry)) ⌝ }
     ensures holds { λ _. ⌜ now (out .exit) ≡ written at (now (bytes .entry)) (now (out .entry)) ⌝ }
 {
-    let end = at + bytes.len();
+    let end = place_after(at, bytes);
     out[at..end].copy_from_slice(bytes);
     end
 }

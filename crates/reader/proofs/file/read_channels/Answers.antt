@@ -6,8 +6,8 @@ use Rattle.std.proofs.shelf.Results.{err-from-errBy}
 use Rattle.reader.proofs.Many.{start, more, stop, done}
 use Rattle.reader.proofs.file.read_channels.Needs as need
 
-pub read-channel-requires : need.read-channel-requires
-read-channel-requires c κs = omega (arith, c .loop-i .inv .shrinks)
+pub sub-site : need.sub-site
+sub-site c = omega (arith, c .loop-i .inv .shrinks)
 
 pub loop-i-holds : need.loop-i-holds
 loop-i-holds c = start _ 16 _ (c .args .count) (c .args .bytes .now)

@@ -6,8 +6,8 @@ use Rattle.std.proofs.shelf.Results.{err-from-errBy}
 use Rattle.reader.proofs.Many.{start, more, stop, done}
 use Rattle.reader.proofs.file.read_instructions.Needs as need
 
-pub read-instruction-requires : need.read-instruction-requires
-read-instruction-requires c κs = omega (arith, c .loop-i .inv .shrinks)
+pub sub-site : need.sub-site
+sub-site c = omega (arith, c .loop-i .inv .shrinks)
 
 pub loop-i-holds : need.loop-i-holds
 loop-i-holds c = start _ 256 _ (c .args .count) (c .args .bytes .now)
