@@ -25,6 +25,7 @@ use Rattle.format.specs.declared.layout.Field.{Field}
 use Rattle.format.specs.Numbers.{number, odd}
 use Rattle.format.specs.Encoding.{channelWidths, instructionWidths}
 use Rattle.format.specs.Rules.{Rule, broken, fault, notZero, channelRules, instructionRules}
+use Rattle.format.specs.Laws.{announced, recordSize}
 use Rattle.format.specs.Reading.{andThen, unless, shortAt, readField, readFields, readBody, readRecord, siteAt, channelOf, readChannel, instructionOf, readInstruction, readMany, readHead, readCount}
 use Rattle.format.proofs.Round.{andThen-ok, parts, unless-ok, field-absent, field-present}
 use Rattle.format.proofs.Fronts.{step, stop, andThen-err, head-ok}
@@ -85,11 +86,6 @@ steady-many one each (suc k) i =
     steady-then (λ end bs. one end i bs) (λ x end bs. andThen (readMany (one end) k (i + 1) bs) (λ y. Ok (x ∷ y .0, y .1))) (each i)
     (λ x. steady-then (λ end bs. readMany (one end) k (i + 1) bs) (λ ys end bs. Ok (x ∷ ys, bs)) (steady-many one each k (i + 1)) (λ ys. steady-none (x ∷ ys)))
 
--- the bytes of all the fields of a record
-abbrev pub total : List ℕ → ℕ
-total [] = 0
-total (w ∷ ws) = w + total ws
-
 -- the site of the same record in a longer file
 abbrev grown : ℕ → Site → Site
 grown k s = record { length = s .length + k; part = s .part; «map_at» = s .«map_at» }
@@ -125,7 +121,7 @@ abbrev Placed : ℕ → ℕ → ℕ → ℕ → Type 0
 Placed low high end b = (low ≤ b) × (b < high) × (b < end)
 
 -- a field of at least one byte is read, or the file ends in it
-field-placed : (s : Site) (w : ℕ) (b : Bool) (bs : List ℕ) (f : Field) (r : List ℕ) (low high : ℕ) → 1 ≤ w → length bs ≤ s .length → low ≤ s .length - length bs → s .length - length bs + w ≤ high → Placed low high (s .length) (s .«map_at») → readField s w b bs ≡ Ok (f, r) → Placed low high (s .length) (f .byte) × (length r ≤ length bs) × (s .length - length r ≤ s .length - length bs + w)
+field-placed : (s : Site) (w : ℕ) (b : Bool) (bs : List ℕ) (f : Field) (r : List ℕ) (low high : ℕ) → 1 ≤ w → length bs ≤ s .length → low ≤ s .length - length bs → s .length - length bs + cond b w 0 ≤ high → Placed low high (s .length) (s .«map_at») → readField s w b bs ≡ Ok (f, r) → Placed low high (s .length) (f .byte) × (length r ≤ length bs) × (s .length - length r ≤ s .length - length bs + cond b w 0)
 field-placed s w false bs f r low high one le l h p e =
     let q = field-absent s w bs f r e in
     (subst (λ (g : Field). Placed low high (s .length) (g .byte)) (q .0) p, omega (arith, ap length (q .1)), omega (arith, ap length (q .1)))
@@ -136,7 +132,7 @@ field-placed s w true bs f r low high one le l h p e =
     let here : Placed low high (s .length) (s .length - length bs) = (l, omega arith, omega arith) in
     (subst (λ (g : Field). Placed low high (s .length) (g .byte)) (q .1 .0) here, omega arith, omega arith)
 
-field-short : (s : Site) (w : ℕ) (b : Bool) (bs : List ℕ) (g : Fault) → readField s w b bs ≡ Err g → (shortAt s ≡ g) × (length bs < w)
+field-short : (s : Site) (w : ℕ) (b : Bool) (bs : List ℕ) (g : Fault) → readField s w b bs ≡ Err g → (shortAt s ≡ g) × (length bs < cond b w 0)
 field-short s w false bs g e = let z : _≡_ {A = ℕ} 0 1 = cc in absurd (omega arith)
 field-short s w true bs g e =
     ⊎-elim
@@ -148,7 +144,7 @@ field-short s w true bs g e =
 abbrev pub Wide : List ℕ → Type 0
 Wide = All (λ w. 1 ≤ w)
 
-fields-placed : (s : Site) (ws : List ℕ) (m : ℕ) (bs : List ℕ) (fs : List Field) (r : List ℕ) (low high : ℕ) → Wide ws → length bs ≤ s .length → low ≤ s .length - length bs → s .length - length bs + total ws ≤ high → Placed low high (s .length) (s .«map_at») → readFields s ws m bs ≡ Ok (fs, r) → All (λ f. Placed low high (s .length) (f .byte)) fs × (length fs ≡ length ws) × (length r ≤ length bs)
+fields-placed : (s : Site) (ws : List ℕ) (m : ℕ) (bs : List ℕ) (fs : List Field) (r : List ℕ) (low high : ℕ) → Wide ws → length bs ≤ s .length → low ≤ s .length - length bs → s .length - length bs + announced ws m ≤ high → Placed low high (s .length) (s .«map_at») → readFields s ws m bs ≡ Ok (fs, r) → All (λ f. Placed low high (s .length) (f .byte)) fs × (length fs ≡ length ws) × (length r ≤ length bs)
 fields-placed s [] m bs fs r low high wide le l h p e =
     let q = parts _ _ _ _ e in
     (subst (All (λ f. Placed low high (s .length) (f .byte))) (q .0) tt, ap length (sym (q .0)), omega (arith, ap length (q .1)))
@@ -162,7 +158,7 @@ fields-placed s (w ∷ ws) m bs fs r low high wide le l h p e =
     let more = fields-placed s ws (m / 2) (a .0 .1) (b .0 .0) (b .0 .1) low high (wide .1) (omega arith) (omega arith) (omega arith) p (b .1) in
     (subst (All (λ f. Placed low high (s .length) (f .byte))) (q .0) (one .0, more .0), ap length (sym (q .0)) ∙ ap suc (more .1), omega (arith, more .2, ap length (q .1)))
 
-fields-short : (s : Site) (ws : List ℕ) (m : ℕ) (bs : List ℕ) (g : Fault) (high : ℕ) → Wide ws → length bs ≤ s .length → s .length - length bs + total ws ≤ high → Placed 0 high (s .length) (s .«map_at») → readFields s ws m bs ≡ Err g → (shortAt s ≡ g) × (s .length < high)
+fields-short : (s : Site) (ws : List ℕ) (m : ℕ) (bs : List ℕ) (g : Fault) (high : ℕ) → Wide ws → length bs ≤ s .length → s .length - length bs + announced ws m ≤ high → Placed 0 high (s .length) (s .«map_at») → readFields s ws m bs ≡ Err g → (shortAt s ≡ g) × (s .length < high)
 fields-short s [] m bs g high wide le h p e = let z : _≡_ {A = ℕ} 0 1 = cc in absurd (omega arith)
 fields-short s (w ∷ ws) m bs g high wide le h p e =
     ⊎-elim
@@ -280,17 +276,17 @@ module _ {X : Type 0} (ws : List ℕ) (rules : Site → List Field → List Rule
     here : s .«map_at» ≡ s .length - suc (length bs)
 
   -- where a record's faults lie
-  pub record Lies (s : Site) (f : Fault) : Type 0 where
+  pub record Lies (s : Site) (size : ℕ) (f : Fault) : Type 0 where
     pub after : s .«map_at» ≤ f .byte
-    pub within : f .byte < s .«map_at» + 1 + total ws
+    pub within : f .byte < s .«map_at» + size
     pub part-is : f .part ≡ s .part
     pub kind : ((f .refusal ≡ why.Short) × (f .byte ≡ s .length)) ⊎ (Middle (f .refusal) × (f .byte < s .length))
 
-  body-told : (s : Site) (m : ℕ) (bs : List ℕ) (f : Fault) → Set-out s bs → readBody ws rules make s m bs ≡ Err f → Lies s f
+  body-told : (s : Site) (m : ℕ) (bs : List ℕ) (f : Fault) → Set-out s bs → readBody ws rules make s m bs ≡ Err f → Lies s (1 + announced ws m) f
   body-told s m bs f o e =
-      let high = s .«map_at» + 1 + total ws in
+      let high = s .«map_at» + (1 + announced ws m) in
       let at-map : Placed (s .«map_at») high (s .length) (s .«map_at») = (omega arith, omega arith, omega (arith, o .fits, o .here)) in
-      let reach : s .length - length bs + total ws ≤ high = omega (arith, o .fits, o .here) in
+      let reach : s .length - length bs + announced ws m ≤ high = omega (arith, o .fits, o .here) in
       ⊎-elim
       (λ t.
       ⊎-elim
@@ -352,7 +348,7 @@ module _ {X : Type 0} (ws : List ℕ) (rules : Site → List Field → List Rule
         let place : end + length more - length (bs ++ more) ≡ end - length bs = simp length-append (omega arith) in
         ap (λ k. record { length = end + length more; part = p; «map_at» = k }) place
 
-    pub record-told : (end : ℕ) (bs : List ℕ) (f : Fault) → length bs ≤ end → readRecord ws rules make (siteAt end p bs) bs ≡ Err f → Lies (siteAt end p bs) f
+    pub record-told : (end : ℕ) (bs : List ℕ) (f : Fault) → length bs ≤ end → readRecord ws rules make (siteAt end p bs) bs ≡ Err f → Lies (siteAt end p bs) (recordSize ws bs) f
     record-told end [] f le e =
         let told : fault why.Short end p ≡ f = cc in
         let byte : end ≡ f .byte = ap (λ (g : Fault). g .byte) told in

@@ -30,7 +30,7 @@ use Rattle.format.specs.Encoding.{encode, encodeModel, encodeChannel, encodeIn
 use Rattle.format.specs.Rules.{fault, channelRules, instructionRules}
 use Rattle.format.specs.Reading.{andThen, readFile, readTail, readHead, readChannels, readChannel, channelOf, readCount, readInstructions, readInstruction, instructionOf}
 use Rattle.format.specs.Refusals.{Refused, Reads, Reads-back, No-script, Channels-right, Instructions-right}
-use Rattle.format.specs.Laws.{One-file, One-refusal, Accepted-or-refused, Accepted-not-refused, Prefix-is-short, Tail-exactly, Appended-same, Byte-within, Every-byte-within, In-its-record}
+use Rattle.format.specs.Laws.{One-file, One-refusal, Accepted-or-refused, Accepted-not-refused, Prefix-is-short, Tail-exactly, Appended-same, Byte-within, Every-byte-within, recordSize, In-its-record}
 use Rattle.format.proofs.Fronts.{step, stop, andThen-err, fromTail, fromInstructions, fromCount, fromChannels, fromWidth, fromLevels}
 use Rattle.format.proofs.Steady.{Told, Steady, steady-none, steady-then, steady-many, steady-head, steady-count, steady-channel, steady-instruction, Lies, record-told, channel-local, instruction-local}
 use Rattle.format.proofs.Files.{file-read-again, file-read, refused-read, read-refused}
@@ -278,21 +278,21 @@ count-part end (a ∷ b ∷ bs) f e =
     (λ t. let d = sym (cond-false _ _ _ t) ∙ e in let told : fault why.Head (end - length (a ∷ b ∷ bs)) part.Count ≡ f = cc in sym (ap (λ (g : Fault). g .part) told))
     (cases-bool (leb 1 m && leb m 256))
 
-in-channel-record : (bs : List ℕ) (f : Fault) (i : ℕ) → Refused bs f → f .part ≡ part.Channel i → (n c : ℕ) × (cs : List Channel) × (rest : List ℕ) × Channels-right bs n c cs rest × (length cs ≡ i) × (i < c) × (length bs - length rest ≤ f .byte) × (f .byte < length bs - length rest + 3)
+in-channel-record : (bs : List ℕ) (f : Fault) (i : ℕ) → Refused bs f → f .part ≡ part.Channel i → (n c : ℕ) × (cs : List Channel) × (rest : List ℕ) × Channels-right bs n c cs rest × (length cs ≡ i) × (i < c) × (length bs - length rest ≤ f .byte) × (f .byte < length bs - length rest + recordSize channelWidths rest)
 in-channel-record bs f i (Refused.in-levels e) p = let q = head-part (length bs) 1 16 bs f e in let z : _≡_ {A = ℕ} 0 1 = cc in absurd (omega arith)
 in-channel-record bs f i (Refused.in-width n rest e low high g) p = let q = head-part (length bs) 0 16 rest f g in let z : _≡_ {A = ℕ} 0 1 = cc in absurd (omega arith)
 in-channel-record bs f i (Refused.in-channel n c cs rest r lt g) p =
     let l = record-told channelWidths (channelRules n) channelOf (channel-local n) (part.Channel (length cs)) (length bs) rest f (channels-room bs n c cs rest r) g in
     let q = l .part-is in
     let same : length cs ≡ i = cc in
-    (n, c, cs, rest, r, same, omega arith, l .after, omega (arith, l .within))
+    (n, c, cs, rest, r, same, omega arith, l .after, l .within)
 in-channel-record bs f i (Refused.in-count n cs rest r g) p = let q = count-part (length bs) rest f g in let z : _≡_ {A = ℕ} 0 1 = cc in absurd (omega arith)
 in-channel-record bs f i (Refused.in-instruction n cs m is rest r lt g) p =
     let q = record-told instructionWidths (instructionRules cs m) instructionOf (instruction-local cs m) (part.Instruction (length is)) (length bs) rest f (instructions-room bs n cs m is rest r) g .part-is in
     let z : _≡_ {A = ℕ} 0 1 = cc in absurd (omega arith)
 in-channel-record bs f i (Refused.in-tail s b rest h e g) p = let q = ap (λ (g : Fault). g .part) g in let z : _≡_ {A = ℕ} 0 1 = cc in absurd (omega arith)
 
-in-instruction-record : (bs : List ℕ) (f : Fault) (i : ℕ) → Refused bs f → f .part ≡ part.Instruction i → (n : ℕ) × (cs : List Channel) × (m : ℕ) × (is : List Instruction) × (rest : List ℕ) × Instructions-right bs n cs m is rest × (length is ≡ i) × (i < m) × (length bs - length rest ≤ f .byte) × (f .byte < length bs - length rest + 12)
+in-instruction-record : (bs : List ℕ) (f : Fault) (i : ℕ) → Refused bs f → f .part ≡ part.Instruction i → (n : ℕ) × (cs : List Channel) × (m : ℕ) × (is : List Instruction) × (rest : List ℕ) × Instructions-right bs n cs m is rest × (length is ≡ i) × (i < m) × (length bs - length rest ≤ f .byte) × (f .byte < length bs - length rest + recordSize instructionWidths rest)
 in-instruction-record bs f i (Refused.in-levels e) p = let q = head-part (length bs) 1 16 bs f e in let z : _≡_ {A = ℕ} 0 1 = cc in absurd (omega arith)
 in-instruction-record bs f i (Refused.in-width n rest e low high g) p = let q = head-part (length bs) 0 16 rest f g in let z : _≡_ {A = ℕ} 0 1 = cc in absurd (omega arith)
 in-instruction-record bs f i (Refused.in-channel n c cs rest r lt g) p =
@@ -303,7 +303,7 @@ in-instruction-record bs f i (Refused.in-instruction n cs m is rest r lt g) p =
     let l = record-told instructionWidths (instructionRules cs m) instructionOf (instruction-local cs m) (part.Instruction (length is)) (length bs) rest f (instructions-room bs n cs m is rest r) g in
     let q = l .part-is in
     let same : length is ≡ i = cc in
-    (n, cs, m, is, rest, r, same, omega arith, l .after, omega (arith, l .within))
+    (n, cs, m, is, rest, r, same, omega arith, l .after, l .within)
 in-instruction-record bs f i (Refused.in-tail s b rest h e g) p = let q = ap (λ (g : Fault). g .part) g in let z : _≡_ {A = ℕ} 0 1 = cc in absurd (omega arith)
 
 pub in-its-record : In-its-record

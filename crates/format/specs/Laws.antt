@@ -1,8 +1,9 @@
 -- What the definitions of files and refusals mean. Assumes nothing.
 use mathlib.Core.Path.{_≡_}
+use mathlib.Core.Bool.{cond}
 use mathlib.Core.List.{List, [], _∷_, _++_}
 use mathlib.Core.Logic.{_⊎_}
-use Prim.Native.Nat.{ℕ, _+_, _-_, _<_, _≤_}
+use Prim.Native.Nat.{ℕ, _+_, _-_, _/_, _<_, _≤_}
 use lib.ListN.{length, take}
 use Rattle.refusal.specs.Numbers.{numberOf}
 use Rattle.refusal.specs.declared.Refusal.the-variants as why
@@ -13,8 +14,8 @@ use Rattle.script.specs.declared.parts.Channel.{Channel}
 use Rattle.script.specs.declared.parts.Instruction.{Instruction}
 use Rattle.script.specs.declared.accepted.Script.{Script}
 use Rattle.script.specs.Model.{Model, Accepted}
-use Rattle.format.specs.Numbers.{Bytes}
-use Rattle.format.specs.Encoding.{encodeModel, encode}
+use Rattle.format.specs.Numbers.{odd, Bytes}
+use Rattle.format.specs.Encoding.{channelWidths, instructionWidths, encodeModel, encode}
 use Rattle.format.specs.Rules.{fault}
 use Rattle.format.specs.Refusals.{Channels-right, Instructions-right, Refused}
 
@@ -56,9 +57,19 @@ pub record Byte-within (bs : List ℕ) (f : Fault) : Type 0 where
 abbrev pub Every-byte-within : Type 0
 Every-byte-within = (bs : List ℕ) (f : Fault) → Refused bs f → Byte-within bs f
 
+-- how many bytes the fields have that a map announces
+abbrev pub announced : List ℕ → ℕ → ℕ
+announced [] m = 0
+announced (w ∷ ws) m = cond (odd m) w 0 + announced ws (m / 2)
+
+-- and the record at the front of rest with its map; where the file ends before the map, the map alone
+abbrev pub recordSize : List ℕ → List ℕ → ℕ
+recordSize ws [] = 1
+recordSize ws (m ∷ rest) = 1 + announced ws m
+
 -- the fault lies in the record that it names, and the bytes before that encode the head and the records before it
 pub record In-its-record : Type 0 where
   pub channel : (bs : List ℕ) (f : Fault) (i : ℕ) → Refused bs f → f .part ≡ part.Channel i →
-      (n c : ℕ) × (cs : List Channel) × (rest : List ℕ) × Channels-right bs n c cs rest × (length cs ≡ i) × (i < c) × (length bs - length rest ≤ f .byte) × (f .byte < length bs - length rest + 3)
+      (n c : ℕ) × (cs : List Channel) × (rest : List ℕ) × Channels-right bs n c cs rest × (length cs ≡ i) × (i < c) × (length bs - length rest ≤ f .byte) × (f .byte < length bs - length rest + recordSize channelWidths rest)
   pub instruction : (bs : List ℕ) (f : Fault) (i : ℕ) → Refused bs f → f .part ≡ part.Instruction i →
-      (n : ℕ) × (cs : List Channel) × (m : ℕ) × (is : List Instruction) × (rest : List ℕ) × Instructions-right bs n cs m is rest × (length is ≡ i) × (i < m) × (length bs - length rest ≤ f .byte) × (f .byte < length bs - length rest + 12)
+      (n : ℕ) × (cs : List Channel) × (m : ℕ) × (is : List Instruction) × (rest : List ℕ) × Instructions-right bs n cs m is rest × (length is ≡ i) × (i < m) × (length bs - length rest ≤ f .byte) × (f .byte < length bs - length rest + recordSize instructionWidths rest)

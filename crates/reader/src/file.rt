@@ -1,6 +1,8 @@
 // Whole files.
+ghost use mathlib.Core.Bool.{_&&_};
 ghost use mathlib.Core.Path.{_≡_};
 ghost use Prim.Native.Nat.{_≤_};
+ghost use lib.Dec.{leb};
 ghost use lib.ListN.{length};
 ghost use Rattle.std.specs.Results.{Cases};
 ghost use Rattle.script.specs.Laws.{Blank, Counted, blank};
@@ -21,6 +23,20 @@ use script::parts::Channel;
 use script::parts::Direction;
 use script::parts::Instruction;
 
+// Is the byte from `low` to `high`?
+fn is_within(byte: u8, low: u8, high: u8) -> bool
+    ensures { λ r. ⌜ r ≡ (leb low byte && leb byte high) ⌝ }
+{
+    low <= byte && byte <= high
+}
+
+// May a script have that many instructions?
+fn is_count(m: usize) -> bool
+    ensures { λ r. ⌜ r ≡ (leb 1 m && leb m 256) ⌝ }
+{
+    1 <= m && m <= 256
+}
+
 // n or c, within its bounds.
 fn read_head<'a>(end: usize, low: u8, high: u8, bytes: &'a [u8]) -> Result<(u8, &'a [u8]), Fault>
     requires { ⌜ length (now bytes) ≤ end ⌝ }
@@ -35,7 +51,7 @@ fn read_head<'a>(end: usize, low: u8, high: u8, bytes: &'a [u8]) -> Result<(u8, 
             part: Part::Head,
         });
     };
-    if *b < low || *b > high {
+    if !is_within(*b, low, high) {
         return Err(Fault {
             refusal: Refusal::Head,
             byte: end - bytes.len(),
@@ -60,7 +76,7 @@ fn read_count<'a>(end: usize, bytes: &'a [u8]) -> Result<(usize, &'a [u8]), Faul
         });
     };
     let m = u16::from_le_bytes([*a, *b]) as usize;
-    if m < 1 || m > 256 {
+    if !is_count(m) {
         return Err(Fault {
             refusal: Refusal::Head,
             byte: end - bytes.len(),

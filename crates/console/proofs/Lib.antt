@@ -1,0 +1,4 @@
+pub mod Counts
+pub mod Cuts
+pub mod HexTexts
+pub mod Hexes

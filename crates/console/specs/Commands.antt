@@ -1,0 +1,71 @@
+-- What the words of a line ask for. Assumes nothing.
+use mathlib.Core.Bool.{Bool, false, cond}
+use mathlib.Core.List.{List, [], _∷_}
+use Prim.Native.Nat.{ℕ}
+use lib.Dec.{eqb}
+use Rattle.std.specs.Of.Vec.{vec-items}
+use Rattle.std.specs.declared.option.Option.{Option}
+use Rattle.std.specs.declared.option.Option.the-variants.{Some, None}
+use Rattle.std.specs.declared.result.Result.{Result}
+use Rattle.std.specs.declared.result.Result.the-variants.{Ok, Err}
+use Rattle.console.specs.declared.command.Command.{Command}
+use Rattle.console.specs.declared.command.Command.the-variants as command
+use Rattle.console.specs.declared.error.LineError.{LineError}
+use Rattle.console.specs.declared.error.LineError.the-variants.{Unknown}
+use Rattle.console.specs.declared.verb.Verb.{Verb}
+use Rattle.console.specs.declared.verb.Verb.the-variants as verb
+use Rattle.console.specs.Answers.{then}
+use Rattle.console.specs.Arguments.{bytesOf, countOf, roomOf, taken, ended}
+use Rattle.console.specs.Verbs.{verbOf}
+use Rattle.console.specs.Words.{wordsOf}
+
+-- a command, with the bytes that it holds
+pub data Request : Type 0 where
+  read : List ℕ → Request
+  show : List ℕ → Request
+  split : List ℕ → ℕ → Request
+  write : List ℕ → ℕ → Request
+  list : List ℕ → Request
+  help : Request
+
+abbrev pub request : Command → Request
+request (command.Read f) = read (vec-items f)
+request (command.Show f) = show (vec-items f)
+request (command.Split f i) = split (vec-items f) i
+request (command.Write f n) = write (vec-items f) n
+request (command.List f) = list (vec-items f)
+request command.Help = help
+
+-- a request for one file, and the words after it
+abbrev pub of-file : (List ℕ → Request) → List (List ℕ) → Result (Request × List (List ℕ)) LineError
+of-file make ws = then (taken bytesOf ws) (λ p. Ok (make (p .0), p .1))
+
+-- a request for one file and a number
+abbrev pub of-file-and : (List ℕ → Result ℕ LineError) → (List ℕ → ℕ → Request) → List (List ℕ) → Result (Request × List (List ℕ)) LineError
+of-file-and number make ws = then (taken bytesOf ws) (λ p. then (taken number (p .1)) (λ q. Ok (make (p .0) (q .0), q .1)))
+
+-- what the words after a command's name ask for, and the words after that
+abbrev pub asked : Verb → List (List ℕ) → Result (Request × List (List ℕ)) LineError
+asked verb.Read ws = of-file read ws
+asked verb.Show ws = of-file show ws
+asked verb.Split ws = of-file-and countOf split ws
+asked verb.Write ws = of-file-and roomOf write ws
+asked verb.List ws = of-file list ws
+asked verb.Help ws = Ok (help, ws)
+
+-- a line that begins with # is for people
+abbrev pub comment : List ℕ → Bool
+comment [] = false
+comment (c ∷ cs) = eqb c 35
+
+abbrev pub by-name : Option Verb → List (List ℕ) → Result (Option Request) LineError
+by-name None ws = Err Unknown
+by-name (Some v) ws = then (asked v ws) (λ p. then (ended (p .1)) (λ _. Ok (Some (p .0))))
+
+abbrev pub requested : List (List ℕ) → Result (Option Request) LineError
+requested [] = Ok None
+requested (name ∷ ws) = cond (comment name) (Ok None) (by-name (verbOf name) ws)
+
+-- what a line asks for
+abbrev pub requestOf : List ℕ → Result (Option Request) LineError
+requestOf line = requested (wordsOf line)

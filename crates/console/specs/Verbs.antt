@@ -1,0 +1,19 @@
+-- The names of the commands. Assumes nothing.
+use mathlib.Core.Bool.{cond}
+use mathlib.Core.List.{List}
+use Prim.Native.Nat.{ℕ}
+use lib.Chars.{codes}
+use Rattle.std.specs.shelf.Text.{sameBytes}
+use Rattle.std.specs.declared.option.Option.{Option}
+use Rattle.std.specs.declared.option.Option.the-variants.{Some, None}
+use Rattle.console.specs.declared.verb.Verb.{Verb}
+use Rattle.console.specs.declared.verb.Verb.the-variants as verb
+
+abbrev pub verbOf : List ℕ → Option Verb
+verbOf w =
+    cond (sameBytes w (codes "read")) (Some verb.Read)
+    (cond (sameBytes w (codes "show")) (Some verb.Show)
+    (cond (sameBytes w (codes "split")) (Some verb.Split)
+    (cond (sameBytes w (codes "write")) (Some verb.Write)
+    (cond (sameBytes w (codes "list")) (Some verb.List)
+    (cond (sameBytes w (codes "help")) (Some verb.Help) None)))))

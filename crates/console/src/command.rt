@@ -1,0 +1,72 @@
+// The commands, and the lines that give them.
+ghost use mathlib.Core.Path.{_≡_};
+ghost use Rattle.std.specs.Options.{mapped};
+ghost use Rattle.console.specs.Answers.{Gives};
+ghost use Rattle.console.specs.Arguments.{Takes};
+ghost use Rattle.console.specs.Commands.{request, asked, comment, requestOf};
+ghost use Rattle.console.specs.Words.{left};
+use crate::error::LineError;
+use crate::verb::Verb;
+use crate::words::Words;
+use std::alloc::Global;
+
+// What a line asks for, with the files and numbers that it gives.
+#[derive(Drop)]
+pub enum Command {
+    Read(Vec<u8>),
+    Show(Vec<u8>),
+    Split { file: Vec<u8>, index: usize },
+    Write { file: Vec<u8>, room: usize },
+    List(Vec<u8>),
+    Help,
+}
+
+// A line that begins with `#` is for people.
+fn is_comment(word: &[u8]) -> bool
+    ensures { λ r. ⌜ r ≡ comment (now (word .entry)) ⌝ }
+{
+    matches!(word, [b'#', ..])
+}
+
+impl Command {
+    // The command of that name, with the arguments that it takes from the words.
+    fn of(verb: Verb, heap: Global, words: &mut Words) -> Result<Command, LineError>
+        ensures { λ r. ⌜ Takes request (asked verb (left (now (words .entry)))) r (left (now (words .exit))) ⌝ }
+    {
+        match verb {
+            Verb::Read => Ok(Command::Read(words.bytes(heap)?)),
+            Verb::Show => Ok(Command::Show(words.bytes(heap)?)),
+            Verb::Split => {
+                let file = words.bytes(heap)?;
+                let index = words.number()?;
+                Ok(Command::Split { file, index })
+            }
+            Verb::Write => {
+                let file = words.bytes(heap)?;
+                let room = words.room()?;
+                Ok(Command::Write { file, room })
+            }
+            Verb::List => Ok(Command::List(words.bytes(heap)?)),
+            Verb::Help => Ok(Command::Help),
+        }
+    }
+
+    // What a line asks for; nothing if it is blank or for people.
+    pub fn parse(heap: Global, line: &[u8]) -> Result<Option<Command>, LineError>
+        ensures { λ r. ⌜ Gives (mapped request) (requestOf (now (line .entry))) r ⌝ }
+    {
+        let mut words = Words::new(line);
+        let Some(name) = words.next_word() else {
+            return Ok(None);
+        };
+        if is_comment(name) {
+            return Ok(None);
+        }
+        let Some(verb) = Verb::of(name) else {
+            return Err(LineError::Unknown);
+        };
+        let command = Command::of(verb, heap, &mut words)?;
+        words.end()?;
+        Ok(Some(command))
+    }
+}

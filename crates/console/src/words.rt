@@ -1,0 +1,159 @@
+// The words of a line, and what they stand for.
+ghost use mathlib.Core.Path.{_≡_};
+ghost use mathlib.Core.Bool.{true, false};
+ghost use Prim.Native.Nat.{ℕ, _<_, _≤_};
+ghost use lib.ListN.{length, getD};
+ghost use Rattle.std.specs.Of.String.{string-bytes};
+ghost use Rattle.std.specs.Of.Vec.{vec-items};
+ghost use Rattle.std.specs.Text.{asciiWhite};
+ghost use Rattle.std.specs.Vec.{made};
+ghost use Rattle.std.specs.shelf.Text.{sameBytes};
+ghost use Rattle.console.specs.Answers.{Gives};
+ghost use Rattle.console.specs.Arguments.{bytesOf, wordOf, countOf, roomOf, taken, Takes, ended};
+ghost use Rattle.console.specs.Words.{wordsOf, left, Cut, First};
+use crate::error::LineError;
+use crate::hex::decode;
+use crate::hex::encode;
+use crate::number::parse_number;
+use std::alloc::AllocError;
+use std::alloc::Global;
+
+// A buffer larger than this serves no script.
+const LARGEST_ROOM: usize = 65536;
+
+// What is left of a line.
+#[derive(Clone, Copy)]
+pub struct Words<'a> {
+    rest: &'a [u8],
+}
+
+// How many bytes stand before the first blank.
+fn word_length(text: &[u8]) -> usize
+    ensures within { λ r. ⌜ r ≤ length (now (text .entry)) ⌝ }
+    ensures solid { λ r. ⌜ ((k : ℕ) → k < r → asciiWhite (getD (now (text .entry)) k 0) ≡ false) ⌝ }
+    ensures stops { λ r. ⌜ (r < length (now (text .entry)) → asciiWhite (getD (now (text .entry)) r 0) ≡ true) ⌝ }
+{
+    for (i, c) in text.iter().enumerate() {
+        if c.is_ascii_whitespace() {
+            return i;
+        }
+    }
+    text.len()
+}
+
+// The first word of a text, empty where there is none, and the text after it.
+fn cut_word(text: &[u8]) -> (&[u8], &[u8])
+    ensures { λ r. ⌜ Cut (wordsOf (now (text .entry))) (now (r .0)) (wordsOf (now (r .1))) ⌝ }
+{
+    let text = text.trim_ascii_start();
+    text.split_at(word_length(text))
+}
+
+// Is the word that name?
+pub(crate) fn is_name(word: &[u8], name: &str) -> bool
+    ensures { λ r. ⌜ r ≡ sameBytes (now (word .entry)) (now (name .entry)) ⌝ }
+{
+    word == name.as_bytes()
+}
+
+// The bytes that a word stands for: hex, or `-` for no bytes.
+pub fn bytes_of(heap: Global, word: &[u8]) -> Result<Vec<u8>, LineError>
+    ensures { λ r. ⌜ Gives vec-items (bytesOf (now (word .entry))) r ⌝ }
+{
+    if is_name(word, "-") {
+        Ok(Vec::new(heap))
+    } else {
+        decode(heap, word)
+    }
+}
+
+// The word that stands for bytes.
+pub fn word_of(heap: Global, bytes: &[u8]) -> Result<String, AllocError>
+    ensures { λ r. ⌜ made r (λ t. string-bytes t ≡ wordOf (now (bytes .entry))) ⌝ }
+{
+    if bytes.is_empty() {
+        String::from_str(heap, "-")
+    } else {
+        encode(heap, bytes)
+    }
+}
+
+// The number that a word is.
+fn count_of(word: &[u8]) -> Result<usize, LineError>
+    ensures { λ r. ⌜ r ≡ countOf (now (word .entry)) ⌝ }
+{
+    match parse_number(word) {
+        Some(number) => Ok(number),
+        None => Err(LineError::Number),
+    }
+}
+
+// The same, of bytes to write to.
+fn room_of(word: &[u8]) -> Result<usize, LineError>
+    ensures { λ r. ⌜ r ≡ roomOf (now (word .entry)) ⌝ }
+{
+    let room = count_of(word)?;
+    if room <= LARGEST_ROOM {
+        Ok(room)
+    } else {
+        Err(LineError::Room)
+    }
+}
+
+impl<'a> Words<'a> {
+    // All words of a line.
+    pub fn new(line: &'a [u8]) -> Words<'a>
+        ensures { λ r. ⌜ left r ≡ wordsOf (now (line .entry)) ⌝ }
+    {
+        Words { rest: line }
+    }
+
+    // The next word, if there is one.
+    pub fn next_word(&mut self) -> Option<&'a [u8]>
+        ensures { λ r. ⌜ First (left (now (self .entry))) r (left (now (self .exit))) ⌝ }
+    {
+        let (word, rest) = cut_word(self.rest);
+        self.rest = rest;
+        if word.is_empty() { None } else { Some(word) }
+    }
+
+    // The bytes that the next word stands for.
+    pub fn bytes(&mut self, heap: Global) -> Result<Vec<u8>, LineError>
+        ensures { λ r. ⌜ Takes vec-items (taken bytesOf (left (now (self .entry)))) r (left (now (self .exit))) ⌝ }
+    {
+        match self.next_word() {
+            Some(word) => bytes_of(heap, word),
+            None => Err(LineError::Missing),
+        }
+    }
+
+    // The number that the next word is.
+    pub fn number(&mut self) -> Result<usize, LineError>
+        ensures { λ r. ⌜ Takes (λ n. n) (taken countOf (left (now (self .entry)))) r (left (now (self .exit))) ⌝ }
+    {
+        match self.next_word() {
+            Some(word) => count_of(word),
+            None => Err(LineError::Missing),
+        }
+    }
+
+    // The number of bytes that the next word asks room for.
+    pub fn room(&mut self) -> Result<usize, LineError>
+        ensures { λ r. ⌜ Takes (λ n. n) (taken roomOf (left (now (self .entry)))) r (left (now (self .exit))) ⌝ }
+    {
+        match self.next_word() {
+            Some(word) => room_of(word),
+            None => Err(LineError::Missing),
+        }
+    }
+
+    // No word is left.
+    pub fn end(&mut self) -> Result<(), LineError>
+        ensures { λ r. ⌜ r ≡ ended (left (now (self .entry))) ⌝ }
+    {
+        match self.next_word() {
+            Some(_) => Err(LineError::Extra),
+            None => Ok(()),
+        }
+    }
+}
