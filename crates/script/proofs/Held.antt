@@ -66,6 +66,10 @@ every-script-accepted s =
           subst (λ j. sound cs (length cs) j (getD is k Skip) ≡ true) (sym em) (subst (λ j. sound cs j m (getD is k Skip) ≡ true) (sym ec) there);
     }
 
+-- a script is known by its counts and tables
+pub one-value : (s t : Script) → s .levels ≡ t .levels → s .«channel_count» ≡ t .«channel_count» → s .channels ≡ t .channels → s .«instruction_count» ≡ t .«instruction_count» → s .instructions ≡ t .instructions → s ≡ t
+one-value s t levels c cs m is = values-one struct (the-propositions (channel-row .coded) (instruction-row .coded)) s t (λ i. (levels i, (c i, (cs i, (m i, (is i, tt))))))
+
 pub same-script : Same-script
 same-script s t e =
     let levels : s .levels ≡ t .levels = ap (λ (m : Model). m .levels) e in
@@ -79,7 +83,7 @@ same-script s t e =
     same-table Skip (s .«instruction_count») (s .instructions) (t .instructions) (s .tables .1 ∙ sym (t .tables .1)) (s .«unused_instructions»)
     (λ k le. t .«unused_instructions» k (omega arith))
     (ap (λ (m : Model). m .instructions) e ∙ ap (λ k. take k (t .instructions)) (sym m)) in
-    values-one struct (the-propositions (channel-row .coded) (instruction-row .coded)) s t (λ i. (levels i, (c i, (cs i, (m i, (is i, tt))))))
+    one-value s t levels c cs m is
 
 -- the laws of a list are those of a table that begins with it
 pub below-table : (n : ℕ) (table xs : List Channel) → take (length xs) table ≡ xs → Below n xs (length xs) → Below n table (length xs)

@@ -4,13 +4,11 @@ ghost use lib.ListN.{length};
 ghost use Rattle.script.specs.Laws.{Headed, Counted, Below, Sound, Blank, blank};
 ghost use Rattle.script.specs.declared.parts.Instruction.the-variants.{Skip};
 use crate::parts::Channel;
-use crate::parts::ChannelPartialEq;
 use crate::parts::Instruction;
-use crate::parts::InstructionPartialEq;
 
 // The first `channel_count` channels and the first `instruction_count` instructions count. The slots after them
 // hold the blank record, so that two scripts are equal exactly where they are the same value.
-#[derive(Clone, Copy, PartialEq, Eq)]
+#[derive(Clone, Copy)]
 pub struct Script {
     pub levels: u8,
     pub channel_count: usize,

@@ -3,3 +3,4 @@ pub mod accepted;
 pub mod build;
 pub mod laws;
 pub mod parts;
+pub mod same;

@@ -1,6 +1,7 @@
 // What a script is made of: channels and instructions.
 ghost use mathlib.Core.Path.{_≡_};
 ghost use lib.IntN.{pos};
+ghost use Rattle.std.specs.Orderings.{Decides};
 ghost use Rattle.script.specs.Kinds.{codeOf, kindOf, fieldsOf};
 
 // Whether values come in by a channel or go out by it.
@@ -22,7 +23,7 @@ impl Direction {
     }
 }
 
-#[derive(Clone, Copy, PartialEq, Eq, Debug)]
+#[derive(Clone, Copy, Debug)]
 pub struct Channel {
     pub direction: Direction,
     pub level: u8,
@@ -58,7 +59,7 @@ impl Operation {
 }
 
 // One instruction. A field that its kind does not use does not exist.
-#[derive(Clone, Copy, PartialEq, Eq, Debug)]
+#[derive(Clone, Copy, Debug)]
 pub enum Instruction {
     Skip,
     Set {
@@ -158,3 +159,24 @@ impl Instruction {
         }
     }
 }
+
+pub impl PartialEq<Channel> for Channel as ChannelPartialEq {
+    ghost equals = { λ x y r. Decides r (x ≡ y) };
+
+    fn eq(&self, other: &Channel) -> bool {
+        self.direction == other.direction && self.level == other.level
+    }
+}
+
+pub impl Eq for Channel as ChannelEq {}
+
+pub impl PartialEq<Instruction> for Instruction as InstructionPartialEq {
+    ghost equals = { λ x y r. Decides r (x ≡ y) };
+
+    // An instruction is known by its fields.
+    fn eq(&self, other: &Instruction) -> bool {
+        self.fields() == other.fields()
+    }
+}
+
+pub impl Eq for Instruction as InstructionEq {}
