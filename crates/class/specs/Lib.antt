@@ -1,0 +1,2 @@
+pub mod Compartments
+pub mod Marked

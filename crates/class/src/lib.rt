@@ -1,0 +1,2 @@
+// The package Class: what Page has, and levels in compartments.
+pub mod compartments;

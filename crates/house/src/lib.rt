@@ -1,0 +1,2 @@
+// The package House: what Class has, and levels by order maps.
+pub mod order_map;

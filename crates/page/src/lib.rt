@@ -1,0 +1,2 @@
+// The package Page: levels on a ladder.
+pub mod ladder;

@@ -1,0 +1,3 @@
+// Levels of confidence: which flows to which, and whose copy moves next.
+pub mod ready;
+pub mod rules;
