@@ -17,6 +17,11 @@ abbrev pub lowest : ℕ → Levels → Option ℕ
 lowest zero s = None
 lowest (suc n) s = first-of (lowest n s) (cond (s n) (Some n) None)
 
+-- an answer that is the lowest member below n: ready, and none below it; or nobody, where none is
+abbrev pub Lowest : ℕ → Levels → Option ℕ → Type 0
+Lowest n s (Some a) = (a < n) × (s a ≡ true) × ((b : ℕ) → b < a → s b ≡ false)
+Lowest n s None = (a : ℕ) → a < n → s a ≡ false
+
 -- a flows to b where a ≤ b, both levels; the lowest ready level is picked at every place
 abbrev pub ladder : ℕ → Order
 ladder n = record {

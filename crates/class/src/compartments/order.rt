@@ -1,13 +1,19 @@
 // Compartments as a regime.
 ghost use mathlib.Core.Path.{_≡_};
 ghost use Prim.Native.Nat.{_^_};
-ghost use Rattle.std.specs.Orderings.{Decides};
 ghost use Rattle.regime.specs.Order.{nearest};
-ghost use Rattle.class.specs.Compartments.{Covered, Own-turns, compartments as marked, within as covers};
+ghost use Rattle.class.specs.Compartments.{Own-turns, compartments as marked, within as covers};
 ghost use Rattle.class.specs.Marked.{orderOf};
 use crate::compartments::Compartments;
 use regime::ready::ReadySet;
 use regime::rules::Regime;
+
+// The number of marks for a number that is asked.
+fn marks_for(k: u8) -> u8
+    ensures { λ r. ⌜ r ≡ nearest 0 4 k ⌝ }
+{
+    k.min(4)
+}
 
 impl Compartments {
     // Compartments of `k` marks, or of the nearest number from 0 to 4.
@@ -15,14 +21,13 @@ impl Compartments {
         ensures order { λ r. ⌜ orderOf r ≡ marked (nearest 0 4 k) ⌝ }
         ensures meaning { λ r. ⌜ Own-turns (2 ^ nearest 0 4 k) (orderOf r) ⌝ }
     {
-        Compartments { marks: k.min(4) }
+        Compartments { marks: marks_for(k) }
     }
 }
 
 // Is every one bit of `a` one in `b`?
 fn within(a: u8, b: u8) -> bool
-    ensures same { λ r. ⌜ r ≡ covers a b ⌝ }
-    ensures bits { λ r. ⌜ Decides r (Covered a b) ⌝ }
+    ensures { λ r. ⌜ r ≡ covers a b ⌝ }
 {
     a & b == a
 }

@@ -2,11 +2,18 @@
 ghost use mathlib.Core.Path.{_≡_};
 ghost use Rattle.regime.specs.Members.{members};
 ghost use Rattle.regime.specs.Order.{nearest};
-ghost use Rattle.page.specs.Ladder.{Picks-lowest, ladder as rungs, lowest as bottom};
+ghost use Rattle.page.specs.Ladder.{Lowest, Picks-lowest, ladder as rungs};
 ghost use Rattle.page.specs.Laddered.{orderOf};
 use crate::ladder::Ladder;
 use regime::ready::ReadySet;
 use regime::rules::Regime;
+
+// The number of levels for a number that is asked.
+fn rungs_for(n: u8) -> u8
+    ensures { λ r. ⌜ r ≡ nearest 1 16 n ⌝ }
+{
+    n.min(16).max(1)
+}
 
 impl Ladder {
     // A ladder of `n` levels, or of the nearest number from 1 to 16.
@@ -14,15 +21,13 @@ impl Ladder {
         ensures order { λ r. ⌜ orderOf r ≡ rungs (nearest 1 16 n) ⌝ }
         ensures meaning { λ r. ⌜ Picks-lowest (nearest 1 16 n) (orderOf r) ⌝ }
     {
-        Ladder {
-            levels: n.min(16).max(1),
-        }
+        Ladder { levels: rungs_for(n) }
     }
 }
 
 // The lowest member below `n`.
 fn lowest(n: u8, ready: &ReadySet) -> Option<u8>
-    ensures { λ r. ⌜ r ≡ bottom n (members (now (ready .entry))) ⌝ }
+    ensures { λ r. ⌜ Lowest n (members (now (ready .entry))) r ⌝ }
 {
     for i in 0..n {
         if ready.contains(i) {
