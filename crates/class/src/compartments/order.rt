@@ -21,7 +21,9 @@ impl Compartments {
         ensures order { λ r. ⌜ orderOf r ≡ marked (nearest 0 4 k) ⌝ }
         ensures meaning { λ r. ⌜ Own-turns (2 ^ nearest 0 4 k) (orderOf r) ⌝ }
     {
-        Compartments { marks: marks_for(k) }
+        Compartments {
+            marks: marks_for(k),
+        }
     }
 }
 

@@ -21,7 +21,9 @@ impl Ladder {
         ensures order { λ r. ⌜ orderOf r ≡ rungs (nearest 1 16 n) ⌝ }
         ensures meaning { λ r. ⌜ Picks-lowest (nearest 1 16 n) (orderOf r) ⌝ }
     {
-        Ladder { levels: rungs_for(n) }
+        Ladder {
+            levels: rungs_for(n),
+        }
     }
 }
 
