@@ -1,4 +1,5 @@
 // The answers to the commands.
+use crate::levels::Levels;
 use crate::listing::list_file;
 use crate::told::Shown;
 use crate::told::ShownDisplay;
@@ -17,12 +18,17 @@ use writer::file::write_script;
 // What a byte of a buffer holds before anything is written to it.
 const UNWRITTEN: u8 = 0xEE;
 
-const HELP: [&str; 7] = [
+const HELP: [&str; 12] = [
     "read HEX        how many levels, channels and instructions a file has",
     "show HEX        its channels and the fields of its instructions",
     "split HEX I     its record with index I, channels first",
     "write HEX ROOM  the file written to a buffer of ROOM bytes",
     "list HEX        the file for a person to read",
+    "levels ladder K | levels compartments K | levels map N ROW ...",
+    "                levels of that kind; ROW is 4 hex digits, row 0 first, bit a of row b for a flows to b",
+    "flows A B       whether level A flows to level B",
+    "pick PLACE MASK who moves at that place, of the levels whose bits are one in the hex number MASK",
+    "                (unmade, where no levels were made)",
     "help            these lines",
     "HEX is hex digits, or - for no bytes; a line that begins with # is left out",
 ];
@@ -85,21 +91,26 @@ fn help(rt: &LibcRuntime) -> io::Result<()> {
     Ok(())
 }
 
-fn answer(rt: &LibcRuntime, command: Command) -> io::Result<()> {
+fn answer(rt: &LibcRuntime, levels: &mut Levels, command: Command) -> io::Result<()> {
     match command {
         Command::Read(file) => read(rt, file.as_slice()),
         Command::Show(file) => show(rt, file.as_slice()),
         Command::Split { file, index } => split(rt, file.as_slice(), index),
         Command::Write { file, room } => write(rt, file.as_slice(), room),
         Command::List(file) => list_file(rt, file.as_slice()),
+        Command::Ladder(n) => levels.make_ladder(rt, n),
+        Command::Compartments(k) => levels.make_compartments(rt, k),
+        Command::Map { levels: n, rows } => levels.make_map(rt, n, rows),
+        Command::Flows { from, to } => levels.flows(rt, from, to),
+        Command::Pick { place, mask } => levels.pick(rt, place, mask),
         Command::Help => help(rt),
     }
 }
 
 // A line that cannot be understood is answered too, so that the others still are.
-pub fn answer_line(rt: &LibcRuntime, line: &[u8]) -> io::Result<()> {
+pub fn answer_line(rt: &LibcRuntime, levels: &mut Levels, line: &[u8]) -> io::Result<()> {
     match Command::parse(rt.alloc(), line) {
-        Ok(Some(command)) => answer(rt, command),
+        Ok(Some(command)) => answer(rt, levels, command),
         Ok(None) => Ok(()),
         Err(error) => println!(rt, "error {error}"),
     }

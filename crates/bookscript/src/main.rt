@@ -1,9 +1,11 @@
 // The tool of authors and makers of scripts: it answers the lines that it reads.
 mod answer;
+mod levels;
 mod listing;
 mod told;
 
 use answer::answer_line;
+use levels::Levels;
 use std::env;
 use std::fs::File;
 use std::io;
@@ -12,23 +14,24 @@ use std::io::BufReader;
 use std::io::Read;
 
 // Lines are bytes: one that is not UTF-8 is a bad line like any other.
-fn answer_lines<R: Read + Drop>(rt: &LibcRuntime, input: R) -> io::Result<()> {
+fn answer_lines<R: Read + Drop>(rt: &LibcRuntime, levels: &mut Levels, input: R) -> io::Result<()> {
     for line in BufReader::new(input).split(rt.alloc(), b'\n') {
-        answer_line(rt, line?.as_slice())?;
+        answer_line(rt, levels, line?.as_slice())?;
     }
     Ok(())
 }
 
 fn run(rt: &LibcRuntime) -> io::Result<()> {
+    let mut levels = Levels::Unmade;
     let mut named = false;
     for name in env::args(rt)?.skip(1) {
         named = true;
-        answer_lines(rt, File::open(rt, name.as_str())?)?;
+        answer_lines(rt, &mut levels, File::open(rt, name.as_str())?)?;
     }
     if named {
         Ok(())
     } else {
-        answer_lines(rt, rt.stdin())
+        answer_lines(rt, &mut levels, rt.stdin())
     }
 }
 

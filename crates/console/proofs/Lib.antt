@@ -2,3 +2,4 @@ pub mod Counts
 pub mod Cuts
 pub mod HexTexts
 pub mod Hexes
+pub mod Rows

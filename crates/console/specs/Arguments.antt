@@ -1,20 +1,23 @@
 -- The words after a command's name. Assumes nothing.
 use mathlib.Core.Path.{_≡_}
-use mathlib.Core.Bool.{cond}
+use mathlib.Core.Bool.{cond, _&&_}
 use mathlib.Core.List.{List, [], _∷_}
 use mathlib.Core.Logic.{_⊎_}
-use Prim.Native.Nat.{ℕ}
+use Prim.Native.Nat.{ℕ, zero, suc}
 use lib.Chars.{codes}
-use lib.Dec.{leb}
+use lib.Dec.{eqb, leb, ltb}
+use lib.ListN.{length, replicate}
 use Rattle.std.specs.Options.{okOr}
 use Rattle.std.specs.shelf.Text.{sameBytes}
+use Rattle.std.specs.declared.option.Option.{Option}
+use Rattle.std.specs.declared.option.Option.the-variants.{Some, None}
 use Rattle.std.specs.declared.result.Result.{Result}
 use Rattle.std.specs.declared.result.Result.the-variants.{Ok, Err}
 use Rattle.console.specs.declared.error.LineError.{LineError}
-use Rattle.console.specs.declared.error.LineError.the-variants.{Missing, Extra, Number, Room, Memory}
+use Rattle.console.specs.declared.error.LineError.the-variants.{Missing, Extra, Number, Room, Row, Mask, Memory}
 use Rattle.console.specs.Answers.{then}
 use Rattle.console.specs.Hex.{decoded, encoded}
-use Rattle.console.specs.Numbers.{numberOf}
+use Rattle.console.specs.Numbers.{numberIn}
 
 -- the bytes that a word stands for
 abbrev pub bytesOf : List ℕ → Result (List ℕ) LineError
@@ -26,11 +29,29 @@ wordOf [] = codes "-"
 wordOf (b ∷ bs) = encoded (b ∷ bs)
 
 abbrev pub countOf : List ℕ → Result ℕ LineError
-countOf w = okOr (numberOf w) Number
+countOf w = okOr (numberIn 10 w) Number
 
 -- a number of bytes to write to
 abbrev pub roomOf : List ℕ → Result ℕ LineError
 roomOf w = then (countOf w) (λ n. cond (leb n 65536) (Ok n) (Err Room))
+
+-- a set of levels
+abbrev pub maskOf : List ℕ → Result ℕ LineError
+maskOf w = okOr (numberIn 16 w) Mask
+
+-- a row of an order map: four hex digits
+abbrev pub four-digits : List ℕ → Option ℕ → Result ℕ LineError
+four-digits w None = Err Row
+four-digits w (Some n) = cond (eqb (length w) 4 && ltb n 65536) (Ok n) (Err Row)
+
+abbrev pub rowOf : List ℕ → Result ℕ LineError
+rowOf w = four-digits w (numberIn 16 w)
+
+-- k rows: those that are given, and then 0; and the words after them
+abbrev pub rowsFrom : ℕ → List (List ℕ) → Result (List ℕ × List (List ℕ)) LineError
+rowsFrom zero ws = Ok ([], ws)
+rowsFrom (suc k) [] = Ok (replicate (suc k) 0, [])
+rowsFrom (suc k) (w ∷ ws) = then (rowOf w) (λ r. then (rowsFrom k ws) (λ p. Ok (r ∷ p .0, p .1)))
 
 -- what f makes of the first word, and the words after it
 abbrev pub taken : {X : Type 0} → (List ℕ → Result X LineError) → List (List ℕ) → Result (X × List (List ℕ)) LineError

@@ -12,11 +12,13 @@ use Rattle.console.specs.declared.command.Command.{Command}
 use Rattle.console.specs.declared.command.Command.the-variants as command
 use Rattle.console.specs.declared.error.LineError.{LineError}
 use Rattle.console.specs.declared.error.LineError.the-variants.{Unknown}
+use Rattle.console.specs.declared.verb.Shape.{Shape}
+use Rattle.console.specs.declared.verb.Shape.the-variants as shape
 use Rattle.console.specs.declared.verb.Verb.{Verb}
 use Rattle.console.specs.declared.verb.Verb.the-variants as verb
 use Rattle.console.specs.Answers.{then}
-use Rattle.console.specs.Arguments.{bytesOf, countOf, roomOf, taken, ended}
-use Rattle.console.specs.Verbs.{verbOf}
+use Rattle.console.specs.Arguments.{bytesOf, countOf, maskOf, roomOf, rowsFrom, taken, ended}
+use Rattle.console.specs.Verbs.{shapeOf, verbOf}
 use Rattle.console.specs.Words.{wordsOf}
 
 -- a command, with the bytes that it holds
@@ -26,6 +28,11 @@ pub data Request : Type 0 where
   split : List ℕ → ℕ → Request
   write : List ℕ → ℕ → Request
   list : List ℕ → Request
+  ladder : ℕ → Request
+  compartments : ℕ → Request
+  map : ℕ → List ℕ → Request
+  flows : ℕ → ℕ → Request
+  pick : ℕ → ℕ → Request
   help : Request
 
 abbrev pub request : Command → Request
@@ -34,6 +41,11 @@ request (command.Show f) = show (vec-items f)
 request (command.Split f i) = split (vec-items f) i
 request (command.Write f n) = write (vec-items f) n
 request (command.List f) = list (vec-items f)
+request (command.Ladder n) = ladder n
+request (command.Compartments k) = compartments k
+request (command.Map n rows) = map n rows
+request (command.Flows a b) = flows a b
+request (command.Pick p m) = pick p m
 request command.Help = help
 
 -- a request for one file, and the words after it
@@ -44,6 +56,23 @@ of-file make ws = then (taken bytesOf ws) (λ p. Ok (make (p .0), p .1))
 abbrev pub of-file-and : (List ℕ → Result ℕ LineError) → (List ℕ → ℕ → Request) → List (List ℕ) → Result (Request × List (List ℕ)) LineError
 of-file-and number make ws = then (taken bytesOf ws) (λ p. then (taken number (p .1)) (λ q. Ok (make (p .0) (q .0), q .1)))
 
+-- a request for a number
+abbrev pub of-number : (ℕ → Request) → List (List ℕ) → Result (Request × List (List ℕ)) LineError
+of-number make ws = then (taken countOf ws) (λ p. Ok (make (p .0), p .1))
+
+-- a request for a number and what the words after it are
+abbrev pub of-number-and : {X : Type 0} → (List (List ℕ) → Result (X × List (List ℕ)) LineError) → (ℕ → X → Request) → List (List ℕ) → Result (Request × List (List ℕ)) LineError
+of-number-and next make ws = then (taken countOf ws) (λ p. then (next (p .1)) (λ q. Ok (make (p .0) (q .0), q .1)))
+
+-- the levels of each kind of regime
+abbrev pub by-shape : Shape → List (List ℕ) → Result (Request × List (List ℕ)) LineError
+by-shape shape.Ladder ws = of-number ladder ws
+by-shape shape.Compartments ws = of-number compartments ws
+by-shape shape.Map ws = of-number-and (rowsFrom 16) map ws
+
+abbrev pub levelsAsked : List (List ℕ) → Result (Request × List (List ℕ)) LineError
+levelsAsked ws = then (taken shapeOf ws) (λ p. by-shape (p .0) (p .1))
+
 -- what the words after a command's name ask for, and the words after that
 abbrev pub asked : Verb → List (List ℕ) → Result (Request × List (List ℕ)) LineError
 asked verb.Read ws = of-file read ws
@@ -51,6 +80,9 @@ asked verb.Show ws = of-file show ws
 asked verb.Split ws = of-file-and countOf split ws
 asked verb.Write ws = of-file-and roomOf write ws
 asked verb.List ws = of-file list ws
+asked verb.Levels ws = levelsAsked ws
+asked verb.Flows ws = of-number-and (taken countOf) flows ws
+asked verb.Pick ws = of-number-and (taken maskOf) pick ws
 asked verb.Help ws = Ok (help, ws)
 
 -- a line that begins with # is for people

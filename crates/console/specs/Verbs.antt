@@ -6,6 +6,12 @@ use lib.Chars.{codes}
 use Rattle.std.specs.shelf.Text.{sameBytes}
 use Rattle.std.specs.declared.option.Option.{Option}
 use Rattle.std.specs.declared.option.Option.the-variants.{Some, None}
+use Rattle.std.specs.declared.result.Result.{Result}
+use Rattle.std.specs.declared.result.Result.the-variants.{Ok, Err}
+use Rattle.console.specs.declared.error.LineError.{LineError}
+use Rattle.console.specs.declared.error.LineError.the-variants as error
+use Rattle.console.specs.declared.verb.Shape.{Shape}
+use Rattle.console.specs.declared.verb.Shape.the-variants as shape
 use Rattle.console.specs.declared.verb.Verb.{Verb}
 use Rattle.console.specs.declared.verb.Verb.the-variants as verb
 
@@ -16,4 +22,14 @@ verbOf w =
     (cond (sameBytes w (codes "split")) (Some verb.Split)
     (cond (sameBytes w (codes "write")) (Some verb.Write)
     (cond (sameBytes w (codes "list")) (Some verb.List)
-    (cond (sameBytes w (codes "help")) (Some verb.Help) None)))))
+    (cond (sameBytes w (codes "levels")) (Some verb.Levels)
+    (cond (sameBytes w (codes "flows")) (Some verb.Flows)
+    (cond (sameBytes w (codes "pick")) (Some verb.Pick)
+    (cond (sameBytes w (codes "help")) (Some verb.Help) None))))))))
+
+-- the kinds of regime
+abbrev pub shapeOf : List ℕ → Result Shape LineError
+shapeOf w =
+    cond (sameBytes w (codes "ladder")) (Ok shape.Ladder)
+    (cond (sameBytes w (codes "compartments")) (Ok shape.Compartments)
+    (cond (sameBytes w (codes "map")) (Ok shape.Map) (Err error.Shape)))

@@ -3,9 +3,10 @@ ghost use mathlib.Core.Path.{_≡_};
 ghost use Rattle.std.specs.Options.{mapped};
 ghost use Rattle.console.specs.Answers.{Gives};
 ghost use Rattle.console.specs.Arguments.{Takes};
-ghost use Rattle.console.specs.Commands.{request, asked, comment, requestOf};
+ghost use Rattle.console.specs.Commands.{asked, comment, levelsAsked, request, requestOf};
 ghost use Rattle.console.specs.Words.{left};
 use crate::error::LineError;
+use crate::verb::Shape;
 use crate::verb::Verb;
 use crate::words::Words;
 use std::alloc::Global;
@@ -18,6 +19,11 @@ pub enum Command {
     Split { file: Vec<u8>, index: usize },
     Write { file: Vec<u8>, room: usize },
     List(Vec<u8>),
+    Ladder(usize),
+    Compartments(usize),
+    Map { levels: usize, rows: [u16; 16] },
+    Flows { from: usize, to: usize },
+    Pick { place: usize, mask: usize },
     Help,
 }
 
@@ -29,6 +35,24 @@ fn is_comment(word: &[u8]) -> bool
 }
 
 impl Command {
+    // The levels that the words ask for.
+    fn levels(words: &mut Words) -> Result<Command, LineError>
+        ensures { λ r. ⌜ Takes request (levelsAsked (left (now (words .entry)))) r (left (now (words .exit))) ⌝ }
+    {
+        let Some(word) = words.next_word() else {
+            return Err(LineError::Missing);
+        };
+        match Shape::of(word)? {
+            Shape::Ladder => Ok(Command::Ladder(words.number()?)),
+            Shape::Compartments => Ok(Command::Compartments(words.number()?)),
+            Shape::Map => {
+                let levels = words.number()?;
+                let rows = words.rows()?;
+                Ok(Command::Map { levels, rows })
+            }
+        }
+    }
+
     // The command of that name, with the arguments that it takes from the words.
     fn of(verb: Verb, heap: Global, words: &mut Words) -> Result<Command, LineError>
         ensures { λ r. ⌜ Takes request (asked verb (left (now (words .entry)))) r (left (now (words .exit))) ⌝ }
@@ -47,6 +71,17 @@ impl Command {
                 Ok(Command::Write { file, room })
             }
             Verb::List => Ok(Command::List(words.bytes(heap)?)),
+            Verb::Levels => Command::levels(words),
+            Verb::Flows => {
+                let from = words.number()?;
+                let to = words.number()?;
+                Ok(Command::Flows { from, to })
+            }
+            Verb::Pick => {
+                let place = words.number()?;
+                let mask = words.mask()?;
+                Ok(Command::Pick { place, mask })
+            }
             Verb::Help => Ok(Command::Help),
         }
     }

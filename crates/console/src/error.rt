@@ -14,6 +14,9 @@ pub enum LineError {
     HexDigit,
     Number,
     Room,
+    Row,
+    Mask,
+    Shape,
     Memory,
 }
 
@@ -43,6 +46,9 @@ pub impl fmt::Display for LineError as LineErrorDisplay {
             LineError::HexDigit => "not a hex digit",
             LineError::Number => "not a number from 0 to 18446744073709551615",
             LineError::Room => "room too large, at most 65536",
+            LineError::Row => "a row is four hex digits",
+            LineError::Mask => "a mask is hex digits, of 64 bits at most",
+            LineError::Shape => "levels are a ladder, compartments or a map",
             LineError::Memory => "out of memory",
         };
         f.write_str(text)

@@ -9,11 +9,12 @@ ghost use Rattle.std.specs.Text.{asciiWhite};
 ghost use Rattle.std.specs.Vec.{made};
 ghost use Rattle.std.specs.shelf.Text.{sameBytes};
 ghost use Rattle.console.specs.Answers.{Gives};
-ghost use Rattle.console.specs.Arguments.{bytesOf, wordOf, countOf, roomOf, taken, Takes, ended};
+ghost use Rattle.console.specs.Arguments.{Takes, bytesOf, countOf, ended, maskOf, roomOf, rowOf, rowsFrom, taken, wordOf};
 ghost use Rattle.console.specs.Words.{wordsOf, left, Cut, First};
 use crate::error::LineError;
 use crate::hex::decode;
 use crate::hex::encode;
+use crate::number::parse_hex;
 use crate::number::parse_number;
 use std::alloc::AllocError;
 use std::alloc::Global;
@@ -100,6 +101,26 @@ fn room_of(word: &[u8]) -> Result<usize, LineError>
     }
 }
 
+// The set that a word is, in hex.
+fn mask_of(word: &[u8]) -> Result<usize, LineError>
+    ensures { λ r. ⌜ r ≡ maskOf (now (word .entry)) ⌝ }
+{
+    match parse_hex(word) {
+        Some(mask) => Ok(mask),
+        None => Err(LineError::Mask),
+    }
+}
+
+// The row of an order map that a word is.
+fn row_of(word: &[u8]) -> Result<u16, LineError>
+    ensures { λ r. ⌜ r ≡ rowOf (now (word .entry)) ⌝ }
+{
+    match parse_hex(word) {
+        Some(row) if word.len() == 4 && row < 65536 => Ok(row as u16),
+        _ => Err(LineError::Row),
+    }
+}
+
 impl<'a> Words<'a> {
     // All words of a line.
     pub fn new(line: &'a [u8]) -> Words<'a>
@@ -145,6 +166,30 @@ impl<'a> Words<'a> {
             Some(word) => room_of(word),
             None => Err(LineError::Missing),
         }
+    }
+
+    // The set that the next word is.
+    pub fn mask(&mut self) -> Result<usize, LineError>
+        ensures { λ r. ⌜ Takes (λ n. n) (taken maskOf (left (now (self .entry)))) r (left (now (self .exit))) ⌝ }
+    {
+        match self.next_word() {
+            Some(word) => mask_of(word),
+            None => Err(LineError::Missing),
+        }
+    }
+
+    // The rows that the next words are, 16 of them at most; those that are not given are 0.
+    pub fn rows(&mut self) -> Result<[u16; 16], LineError>
+        ensures { λ r. ⌜ Takes (λ rows. rows) (rowsFrom 16 (left (now (self .entry)))) r (left (now (self .exit))) ⌝ }
+    {
+        let mut rows = [0; 16];
+        for i in 0..16 {
+            let Some(word) = self.next_word() else {
+                return Ok(rows);
+            };
+            rows[i] = row_of(word)?;
+        }
+        Ok(rows)
     }
 
     // No word is left.
