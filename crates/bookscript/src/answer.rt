@@ -1,4 +1,5 @@
 // The answers to the commands.
+use crate::hosted::Hosted;
 use crate::levels::Levels;
 use crate::listing::list_file;
 use crate::told::Shown;
@@ -18,7 +19,7 @@ use writer::file::write_script;
 // What a byte of a buffer holds before anything is written to it.
 const UNWRITTEN: u8 = 0xEE;
 
-const HELP: [&str; 12] = [
+const HELP: [&str; 18] = [
     "read HEX        how many levels, channels and instructions a file has",
     "show HEX        its channels and the fields of its instructions",
     "split HEX I     its record with index I, channels first",
@@ -29,6 +30,12 @@ const HELP: [&str; 12] = [
     "flows A B       whether level A flows to level B",
     "pick PLACE MASK who moves at that place, of the levels whose bits are one in the hex number MASK",
     "                (unmade, where no levels were made)",
+    "host slot       a host of 16 channels of capacity 32",
+    "host caps CAP ...  a host with a channel of each capacity, 16 at most",
+    "put C V         the value V goes to the end of channel C",
+    "take C          the oldest value of channel C comes out",
+    "count | held C | space C  how many channels, how many values, how many more fit",
+    "                (unmade, where no host was made)",
     "help            these lines",
     "HEX is hex digits, or - for no bytes; a line that begins with # is left out",
 ];
@@ -91,26 +98,40 @@ fn help(rt: &LibcRuntime) -> io::Result<()> {
     Ok(())
 }
 
-fn answer(rt: &LibcRuntime, levels: &mut Levels, command: Command) -> io::Result<()> {
+// What was made last, which other lines ask about.
+#[derive(Drop)]
+pub struct Made {
+    pub levels: Levels,
+    pub host: Hosted,
+}
+
+fn answer(rt: &LibcRuntime, made: &mut Made, command: Command) -> io::Result<()> {
     match command {
         Command::Read(file) => read(rt, file.as_slice()),
         Command::Show(file) => show(rt, file.as_slice()),
         Command::Split { file, index } => split(rt, file.as_slice(), index),
         Command::Write { file, room } => write(rt, file.as_slice(), room),
         Command::List(file) => list_file(rt, file.as_slice()),
-        Command::Ladder(n) => levels.make_ladder(rt, n),
-        Command::Compartments(k) => levels.make_compartments(rt, k),
-        Command::Map { levels: n, rows } => levels.make_map(rt, n, rows),
-        Command::Flows { from, to } => levels.flows(rt, from, to),
-        Command::Pick { place, mask } => levels.pick(rt, place, mask),
+        Command::Ladder(n) => made.levels.make_ladder(rt, n),
+        Command::Compartments(k) => made.levels.make_compartments(rt, k),
+        Command::Map { levels: n, rows } => made.levels.make_map(rt, n, rows),
+        Command::Flows { from, to } => made.levels.flows(rt, from, to),
+        Command::Pick { place, mask } => made.levels.pick(rt, place, mask),
+        Command::SlotHost => made.host.make_slot(rt),
+        Command::OwnHost(capacities) => made.host.make_own(rt, capacities),
+        Command::Put { channel, value } => made.host.put(rt, channel, value),
+        Command::Take(channel) => made.host.take(rt, channel),
+        Command::Count => made.host.count(rt),
+        Command::Held(channel) => made.host.held(rt, channel),
+        Command::Space(channel) => made.host.space(rt, channel),
         Command::Help => help(rt),
     }
 }
 
 // A line that cannot be understood is answered too, so that the others still are.
-pub fn answer_line(rt: &LibcRuntime, levels: &mut Levels, line: &[u8]) -> io::Result<()> {
+pub fn answer_line(rt: &LibcRuntime, made: &mut Made, line: &[u8]) -> io::Result<()> {
     match Command::parse(rt.alloc(), line) {
-        Ok(Some(command)) => answer(rt, levels, command),
+        Ok(Some(command)) => answer(rt, made, command),
         Ok(None) => Ok(()),
         Err(error) => println!(rt, "error {error}"),
     }

@@ -3,3 +3,4 @@ pub mod Cuts
 pub mod HexTexts
 pub mod Hexes
 pub mod Rows
+pub mod Signs

@@ -6,6 +6,7 @@ use mathlib.Core.Logic.{_⊎_}
 use Prim.Native.Nat.{ℕ, zero, suc}
 use lib.Chars.{codes}
 use lib.Dec.{eqb, leb, ltb}
+use lib.IntN.{ℤ, pos, negℤ}
 use lib.ListN.{length, replicate}
 use Rattle.std.specs.Options.{okOr}
 use Rattle.std.specs.shelf.Text.{sameBytes}
@@ -14,7 +15,9 @@ use Rattle.std.specs.declared.option.Option.the-variants.{Some, None}
 use Rattle.std.specs.declared.result.Result.{Result}
 use Rattle.std.specs.declared.result.Result.the-variants.{Ok, Err}
 use Rattle.console.specs.declared.error.LineError.{LineError}
-use Rattle.console.specs.declared.error.LineError.the-variants.{Missing, Extra, Number, Room, Row, Mask, Memory}
+use Rattle.console.specs.declared.error.LineError.the-variants.{Missing, Extra, Number, Room, Row, Mask, Capacity, Value, Memory}
+use Rattle.console.specs.declared.words.Entry.{Entry}
+use Rattle.console.specs.declared.words.Entry.the-variants as entry
 use Rattle.console.specs.Answers.{then}
 use Rattle.console.specs.Hex.{decoded, encoded}
 use Rattle.console.specs.Numbers.{numberIn}
@@ -47,11 +50,37 @@ four-digits w (Some n) = cond (eqb (length w) 4 && ltb n 65536) (Ok n) (Err Row)
 abbrev pub rowOf : List ℕ → Result ℕ LineError
 rowOf w = four-digits w (numberIn 16 w)
 
--- k rows: those that are given, and then 0; and the words after them
-abbrev pub rowsFrom : ℕ → List (List ℕ) → Result (List ℕ × List (List ℕ)) LineError
-rowsFrom zero ws = Ok ([], ws)
-rowsFrom (suc k) [] = Ok (replicate (suc k) 0, [])
-rowsFrom (suc k) (w ∷ ws) = then (rowOf w) (λ r. then (rowsFrom k ws) (λ p. Ok (r ∷ p .0, p .1)))
+-- a capacity of a channel
+abbrev pub bounded : Option ℕ → Result ℕ LineError
+bounded None = Err Capacity
+bounded (Some n) = cond (leb 1 n && leb n 65535) (Ok n) (Err Capacity)
+
+abbrev pub capacityOf : List ℕ → Result ℕ LineError
+capacityOf w = bounded (numberIn 10 w)
+
+-- a value of a channel: a number, or one after a minus sign
+abbrev pub positive : Option ℕ → Result ℤ LineError
+positive None = Err Value
+positive (Some n) = cond (leb n 2147483647) (Ok (pos n)) (Err Value)
+
+abbrev pub negative : Option ℕ → Result ℤ LineError
+negative None = Err Value
+negative (Some n) = cond (leb n 2147483648) (Ok (negℤ (pos n))) (Err Value)
+
+abbrev pub valueOf : List ℕ → Result ℤ LineError
+valueOf [] = Err Value
+valueOf (c ∷ cs) = cond (eqb c 45) (negative (numberIn 10 cs)) (positive (numberIn 10 (c ∷ cs)))
+
+-- what the words of a table are
+abbrev pub entryOf : Entry → List ℕ → Result ℕ LineError
+entryOf entry.Row w = rowOf w
+entryOf entry.Capacity w = capacityOf w
+
+-- k entries: those that are given, and then 0; and the words after them
+abbrev pub tableFrom : (List ℕ → Result ℕ LineError) → ℕ → List (List ℕ) → Result (List ℕ × List (List ℕ)) LineError
+tableFrom f zero ws = Ok ([], ws)
+tableFrom f (suc k) [] = Ok (replicate (suc k) 0, [])
+tableFrom f (suc k) (w ∷ ws) = then (f w) (λ r. then (tableFrom f k ws) (λ p. Ok (r ∷ p .0, p .1)))
 
 -- what f makes of the first word, and the words after it
 abbrev pub taken : {X : Type 0} → (List ℕ → Result X LineError) → List (List ℕ) → Result (X × List (List ℕ)) LineError

@@ -3,6 +3,7 @@ use mathlib.Core.Bool.{Bool, false, cond}
 use mathlib.Core.List.{List, [], _∷_}
 use Prim.Native.Nat.{ℕ}
 use lib.Dec.{eqb}
+use lib.IntN.{ℤ}
 use Rattle.std.specs.Of.Vec.{vec-items}
 use Rattle.std.specs.declared.option.Option.{Option}
 use Rattle.std.specs.declared.option.Option.the-variants.{Some, None}
@@ -12,13 +13,15 @@ use Rattle.console.specs.declared.command.Command.{Command}
 use Rattle.console.specs.declared.command.Command.the-variants as command
 use Rattle.console.specs.declared.error.LineError.{LineError}
 use Rattle.console.specs.declared.error.LineError.the-variants.{Unknown}
+use Rattle.console.specs.declared.verb.HostKind.{HostKind}
+use Rattle.console.specs.declared.verb.HostKind.the-variants as kind
 use Rattle.console.specs.declared.verb.Shape.{Shape}
 use Rattle.console.specs.declared.verb.Shape.the-variants as shape
 use Rattle.console.specs.declared.verb.Verb.{Verb}
 use Rattle.console.specs.declared.verb.Verb.the-variants as verb
 use Rattle.console.specs.Answers.{then}
-use Rattle.console.specs.Arguments.{bytesOf, countOf, maskOf, roomOf, rowsFrom, taken, ended}
-use Rattle.console.specs.Verbs.{shapeOf, verbOf}
+use Rattle.console.specs.Arguments.{bytesOf, countOf, maskOf, roomOf, rowOf, capacityOf, valueOf, tableFrom, taken, ended}
+use Rattle.console.specs.Verbs.{hostOf, shapeOf, verbOf}
 use Rattle.console.specs.Words.{wordsOf}
 
 -- a command, with the bytes that it holds
@@ -33,6 +36,13 @@ pub data Request : Type 0 where
   map : ℕ → List ℕ → Request
   flows : ℕ → ℕ → Request
   pick : ℕ → ℕ → Request
+  slot-host : Request
+  own-host : List ℕ → Request
+  put : ℕ → ℤ → Request
+  take : ℕ → Request
+  count : Request
+  held : ℕ → Request
+  space : ℕ → Request
   help : Request
 
 abbrev pub request : Command → Request
@@ -46,6 +56,13 @@ request (command.Compartments k) = compartments k
 request (command.Map n rows) = map n rows
 request (command.Flows a b) = flows a b
 request (command.Pick p m) = pick p m
+request command.SlotHost = slot-host
+request (command.OwnHost caps) = own-host caps
+request (command.Put c v) = put c v
+request (command.Take c) = take c
+request command.Count = count
+request (command.Held c) = held c
+request (command.Space c) = space c
 request command.Help = help
 
 -- a request for one file, and the words after it
@@ -68,10 +85,18 @@ of-number-and next make ws = then (taken countOf ws) (λ p. then (next (p .1)) (
 abbrev pub by-shape : Shape → List (List ℕ) → Result (Request × List (List ℕ)) LineError
 by-shape shape.Ladder ws = of-number ladder ws
 by-shape shape.Compartments ws = of-number compartments ws
-by-shape shape.Map ws = of-number-and (rowsFrom 16) map ws
+by-shape shape.Map ws = of-number-and (tableFrom rowOf 16) map ws
 
 abbrev pub levelsAsked : List (List ℕ) → Result (Request × List (List ℕ)) LineError
 levelsAsked ws = then (taken shapeOf ws) (λ p. by-shape (p .0) (p .1))
+
+-- a host of each kind
+abbrev pub by-kind : HostKind → List (List ℕ) → Result (Request × List (List ℕ)) LineError
+by-kind kind.Slot ws = Ok (slot-host, ws)
+by-kind kind.Caps ws = then (tableFrom capacityOf 16 ws) (λ p. Ok (own-host (p .0), p .1))
+
+abbrev pub hostAsked : List (List ℕ) → Result (Request × List (List ℕ)) LineError
+hostAsked ws = then (taken hostOf ws) (λ p. by-kind (p .0) (p .1))
 
 -- what the words after a command's name ask for, and the words after that
 abbrev pub asked : Verb → List (List ℕ) → Result (Request × List (List ℕ)) LineError
@@ -83,6 +108,12 @@ asked verb.List ws = of-file list ws
 asked verb.Levels ws = levelsAsked ws
 asked verb.Flows ws = of-number-and (taken countOf) flows ws
 asked verb.Pick ws = of-number-and (taken maskOf) pick ws
+asked verb.Host ws = hostAsked ws
+asked verb.Put ws = of-number-and (taken valueOf) put ws
+asked verb.Take ws = of-number take ws
+asked verb.Count ws = Ok (count, ws)
+asked verb.Held ws = of-number held ws
+asked verb.Space ws = of-number space ws
 asked verb.Help ws = Ok (help, ws)
 
 -- a line that begins with # is for people

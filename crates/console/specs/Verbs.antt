@@ -10,6 +10,8 @@ use Rattle.std.specs.declared.result.Result.{Result}
 use Rattle.std.specs.declared.result.Result.the-variants.{Ok, Err}
 use Rattle.console.specs.declared.error.LineError.{LineError}
 use Rattle.console.specs.declared.error.LineError.the-variants as error
+use Rattle.console.specs.declared.verb.HostKind.{HostKind}
+use Rattle.console.specs.declared.verb.HostKind.the-variants as kind
 use Rattle.console.specs.declared.verb.Shape.{Shape}
 use Rattle.console.specs.declared.verb.Shape.the-variants as shape
 use Rattle.console.specs.declared.verb.Verb.{Verb}
@@ -25,7 +27,13 @@ verbOf w =
     (cond (sameBytes w (codes "levels")) (Some verb.Levels)
     (cond (sameBytes w (codes "flows")) (Some verb.Flows)
     (cond (sameBytes w (codes "pick")) (Some verb.Pick)
-    (cond (sameBytes w (codes "help")) (Some verb.Help) None))))))))
+    (cond (sameBytes w (codes "host")) (Some verb.Host)
+    (cond (sameBytes w (codes "put")) (Some verb.Put)
+    (cond (sameBytes w (codes "take")) (Some verb.Take)
+    (cond (sameBytes w (codes "count")) (Some verb.Count)
+    (cond (sameBytes w (codes "held")) (Some verb.Held)
+    (cond (sameBytes w (codes "space")) (Some verb.Space)
+    (cond (sameBytes w (codes "help")) (Some verb.Help) None))))))))))))))
 
 -- the kinds of regime
 abbrev pub shapeOf : List ℕ → Result Shape LineError
@@ -33,3 +41,9 @@ shapeOf w =
     cond (sameBytes w (codes "ladder")) (Ok shape.Ladder)
     (cond (sameBytes w (codes "compartments")) (Ok shape.Compartments)
     (cond (sameBytes w (codes "map")) (Ok shape.Map) (Err error.Shape)))
+
+-- the hosts
+abbrev pub hostOf : List ℕ → Result HostKind LineError
+hostOf w =
+    cond (sameBytes w (codes "slot")) (Ok kind.Slot)
+    (cond (sameBytes w (codes "caps")) (Ok kind.Caps) (Err error.Host))

@@ -3,11 +3,13 @@ ghost use mathlib.Core.Path.{_≡_};
 ghost use Rattle.std.specs.Options.{mapped};
 ghost use Rattle.console.specs.Answers.{Gives};
 ghost use Rattle.console.specs.Arguments.{Takes};
-ghost use Rattle.console.specs.Commands.{asked, comment, levelsAsked, request, requestOf};
+ghost use Rattle.console.specs.Commands.{asked, comment, hostAsked, levelsAsked, request, requestOf};
 ghost use Rattle.console.specs.Words.{left};
 use crate::error::LineError;
+use crate::verb::HostKind;
 use crate::verb::Shape;
 use crate::verb::Verb;
+use crate::words::Entry;
 use crate::words::Words;
 use std::alloc::Global;
 
@@ -24,6 +26,14 @@ pub enum Command {
     Map { levels: usize, rows: [u16; 16] },
     Flows { from: usize, to: usize },
     Pick { place: usize, mask: usize },
+    SlotHost,
+    // The capacity of each channel; the first that is 0 ends them.
+    OwnHost([u16; 16]),
+    Put { channel: usize, value: i32 },
+    Take(usize),
+    Count,
+    Held(usize),
+    Space(usize),
     Help,
 }
 
@@ -47,9 +57,22 @@ impl Command {
             Shape::Compartments => Ok(Command::Compartments(words.number()?)),
             Shape::Map => {
                 let levels = words.number()?;
-                let rows = words.rows()?;
+                let rows = words.table(Entry::Row)?;
                 Ok(Command::Map { levels, rows })
             }
+        }
+    }
+
+    // The host that the words ask for.
+    fn host(words: &mut Words) -> Result<Command, LineError>
+        ensures { λ r. ⌜ Takes request (hostAsked (left (now (words .entry)))) r (left (now (words .exit))) ⌝ }
+    {
+        let Some(word) = words.next_word() else {
+            return Err(LineError::Missing);
+        };
+        match HostKind::of(word)? {
+            HostKind::Slot => Ok(Command::SlotHost),
+            HostKind::Caps => Ok(Command::OwnHost(words.table(Entry::Capacity)?)),
         }
     }
 
@@ -82,6 +105,16 @@ impl Command {
                 let mask = words.mask()?;
                 Ok(Command::Pick { place, mask })
             }
+            Verb::Host => Command::host(words),
+            Verb::Put => {
+                let channel = words.number()?;
+                let value = words.value()?;
+                Ok(Command::Put { channel, value })
+            }
+            Verb::Take => Ok(Command::Take(words.number()?)),
+            Verb::Count => Ok(Command::Count),
+            Verb::Held => Ok(Command::Held(words.number()?)),
+            Verb::Space => Ok(Command::Space(words.number()?)),
             Verb::Help => Ok(Command::Help),
         }
     }

@@ -17,6 +17,9 @@ pub enum LineError {
     Row,
     Mask,
     Shape,
+    Host,
+    Capacity,
+    Value,
     Memory,
 }
 
@@ -36,9 +39,9 @@ pub impl<T: Drop> From<Refused<T>> for LineError as LineErrorFromRefused {
     }
 }
 
-pub impl fmt::Display for LineError as LineErrorDisplay {
-    fn fmt<W: fmt::Write>(&self, f: &mut fmt::Formatter<W>) -> fmt::Result {
-        let text = match self {
+impl LineError {
+    fn text(self) -> &'static str {
+        match self {
             LineError::Unknown => "unknown command, see help",
             LineError::Missing => "a word is missing, see help",
             LineError::Extra => "a word too many, see help",
@@ -49,8 +52,16 @@ pub impl fmt::Display for LineError as LineErrorDisplay {
             LineError::Row => "a row is four hex digits",
             LineError::Mask => "a mask is hex digits, of 64 bits at most",
             LineError::Shape => "levels are a ladder, compartments or a map",
+            LineError::Host => "a host is slot or caps",
+            LineError::Capacity => "a capacity is a number from 1 to 65535",
+            LineError::Value => "a value is a number from -2147483648 to 2147483647",
             LineError::Memory => "out of memory",
-        };
-        f.write_str(text)
+        }
+    }
+}
+
+pub impl fmt::Display for LineError as LineErrorDisplay {
+    fn fmt<W: fmt::Write>(&self, f: &mut fmt::Formatter<W>) -> fmt::Result {
+        f.write_str(self.text())
     }
 }

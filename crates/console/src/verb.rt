@@ -1,6 +1,6 @@
 // The names of the commands.
 ghost use mathlib.Core.Path.{_≡_};
-ghost use Rattle.console.specs.Verbs.{shapeOf, verbOf};
+ghost use Rattle.console.specs.Verbs.{hostOf, shapeOf, verbOf};
 use crate::error::LineError;
 use crate::words::is_name;
 
@@ -15,6 +15,12 @@ pub enum Verb {
     Levels,
     Flows,
     Pick,
+    Host,
+    Put,
+    Take,
+    Count,
+    Held,
+    Space,
     Help,
 }
 
@@ -39,6 +45,18 @@ impl Verb {
             Some(Verb::Flows)
         } else if is_name(word, "pick") {
             Some(Verb::Pick)
+        } else if is_name(word, "host") {
+            Some(Verb::Host)
+        } else if is_name(word, "put") {
+            Some(Verb::Put)
+        } else if is_name(word, "take") {
+            Some(Verb::Take)
+        } else if is_name(word, "count") {
+            Some(Verb::Count)
+        } else if is_name(word, "held") {
+            Some(Verb::Held)
+        } else if is_name(word, "space") {
+            Some(Verb::Space)
         } else if is_name(word, "help") {
             Some(Verb::Help)
         } else {
@@ -68,6 +86,28 @@ impl Shape {
             Ok(Shape::Map)
         } else {
             Err(LineError::Shape)
+        }
+    }
+}
+
+// The hosts that can be made.
+#[derive(Clone, Copy, PartialEq, Eq, Debug)]
+pub enum HostKind {
+    Slot,
+    Caps,
+}
+
+impl HostKind {
+    // The host of that name.
+    pub fn of(word: &[u8]) -> Result<HostKind, LineError>
+        ensures { λ r. ⌜ r ≡ hostOf (now (word .entry)) ⌝ }
+    {
+        if is_name(word, "slot") {
+            Ok(HostKind::Slot)
+        } else if is_name(word, "caps") {
+            Ok(HostKind::Caps)
+        } else {
+            Err(LineError::Host)
         }
     }
 }

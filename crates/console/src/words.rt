@@ -9,7 +9,7 @@ ghost use Rattle.std.specs.Text.{asciiWhite};
 ghost use Rattle.std.specs.Vec.{made};
 ghost use Rattle.std.specs.shelf.Text.{sameBytes};
 ghost use Rattle.console.specs.Answers.{Gives};
-ghost use Rattle.console.specs.Arguments.{Takes, bytesOf, countOf, ended, maskOf, roomOf, rowOf, rowsFrom, taken, wordOf};
+ghost use Rattle.console.specs.Arguments.{Takes, bytesOf, capacityOf, countOf, ended, entryOf, maskOf, negative, positive, roomOf, rowOf, tableFrom, taken, valueOf, wordOf};
 ghost use Rattle.console.specs.Words.{wordsOf, left, Cut, First};
 use crate::error::LineError;
 use crate::hex::decode;
@@ -121,6 +121,62 @@ fn row_of(word: &[u8]) -> Result<u16, LineError>
     }
 }
 
+// The capacity that a word is.
+fn capacity_of(word: &[u8]) -> Result<u16, LineError>
+    ensures { λ r. ⌜ r ≡ capacityOf (now (word .entry)) ⌝ }
+{
+    match parse_number(word) {
+        Some(capacity) if 1 <= capacity && capacity <= 65535 => Ok(capacity as u16),
+        _ => Err(LineError::Capacity),
+    }
+}
+
+// What the words of a table are.
+#[derive(Clone, Copy, PartialEq, Eq, Debug)]
+pub enum Entry {
+    Row,
+    Capacity,
+}
+
+fn entry_of(kind: Entry, word: &[u8]) -> Result<u16, LineError>
+    ensures { λ r. ⌜ r ≡ entryOf kind (now (word .entry)) ⌝ }
+{
+    match kind {
+        Entry::Row => row_of(word),
+        Entry::Capacity => capacity_of(word),
+    }
+}
+
+// The value of that size, if it is not too large.
+fn positive_of(size: Option<usize>) -> Result<i32, LineError>
+    ensures { λ r. ⌜ r ≡ positive size ⌝ }
+{
+    match size {
+        Some(n) if n <= 2147483647 => Ok(n as i32),
+        _ => Err(LineError::Value),
+    }
+}
+
+// The same, below 0.
+fn negative_of(size: Option<usize>) -> Result<i32, LineError>
+    ensures { λ r. ⌜ r ≡ negative size ⌝ }
+{
+    match size {
+        Some(n) if n <= 2147483648 => Ok((0 - n as i64) as i32),
+        _ => Err(LineError::Value),
+    }
+}
+
+// The value that a word is: digits, after a minus sign if it is below 0.
+fn value_of(word: &[u8]) -> Result<i32, LineError>
+    ensures { λ r. ⌜ r ≡ valueOf (now (word .entry)) ⌝ }
+{
+    match word {
+        [b'-', digits @ ..] => negative_of(parse_number(digits)),
+        _ => positive_of(parse_number(word)),
+    }
+}
+
 impl<'a> Words<'a> {
     // All words of a line.
     pub fn new(line: &'a [u8]) -> Words<'a>
@@ -178,18 +234,28 @@ impl<'a> Words<'a> {
         }
     }
 
-    // The rows that the next words are, 16 of them at most; those that are not given are 0.
-    pub fn rows(&mut self) -> Result<[u16; 16], LineError>
-        ensures { λ r. ⌜ Takes (λ rows. rows) (rowsFrom 16 (left (now (self .entry)))) r (left (now (self .exit))) ⌝ }
+    // The value that the next word is.
+    pub fn value(&mut self) -> Result<i32, LineError>
+        ensures { λ r. ⌜ Takes (λ v. v) (taken valueOf (left (now (self .entry)))) r (left (now (self .exit))) ⌝ }
     {
-        let mut rows = [0; 16];
+        match self.next_word() {
+            Some(word) => value_of(word),
+            None => Err(LineError::Missing),
+        }
+    }
+
+    // The entries that the next words are, 16 of them at most; those that are not given are 0.
+    pub fn table(&mut self, kind: Entry) -> Result<[u16; 16], LineError>
+        ensures { λ r. ⌜ Takes (λ t. t) (tableFrom (entryOf kind) 16 (left (now (self .entry)))) r (left (now (self .exit))) ⌝ }
+    {
+        let mut entries = [0; 16];
         for i in 0..16 {
             let Some(word) = self.next_word() else {
-                return Ok(rows);
+                return Ok(entries);
             };
-            rows[i] = row_of(word)?;
+            entries[i] = entry_of(kind, word)?;
         }
-        Ok(rows)
+        Ok(entries)
     }
 
     // No word is left.

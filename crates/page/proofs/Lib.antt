@@ -1,2 +1,4 @@
 pub mod Lowest
 pub mod Rungs
+pub mod Queues
+pub mod Slotted

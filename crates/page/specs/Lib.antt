@@ -1,2 +1,3 @@
 pub mod Ladder
 pub mod Laddered
+pub mod Slots

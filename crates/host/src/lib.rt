@@ -1,0 +1,2 @@
+// Channels of values between the engine and the world.
+pub mod calls;
