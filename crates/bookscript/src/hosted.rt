@@ -1,5 +1,4 @@
 // A host and the calls on it.
-use console::number::capped_byte;
 use host::calls::Host;
 use own_host::lanes::HeapHost;
 use own_host::lanes::calls::HeapHostCalls;
@@ -8,6 +7,7 @@ use page::slots::calls::SlotHostCalls;
 use refusal::Refusal;
 use std::fmt;
 use std::io;
+use text::number::capped_byte;
 
 // The host that was made last.
 #[derive(Drop)]

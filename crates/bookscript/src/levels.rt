@@ -1,7 +1,6 @@
 // Levels and the questions about them.
 use class::compartments::Compartments;
 use class::compartments::order::CompartmentsRegime;
-use console::number::capped_byte;
 use house::order_map::OrderMap;
 use house::order_map::order::OrderMapRegime;
 use page::ladder::Ladder;
@@ -9,6 +8,7 @@ use page::ladder::order::LadderRegime;
 use regime::ready::ReadySet;
 use regime::rules::Regime;
 use std::io;
+use text::number::capped_byte;
 
 // The levels that were made last.
 #[derive(Clone, Copy)]

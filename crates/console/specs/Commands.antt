@@ -11,18 +11,18 @@ use Rattle.std.specs.declared.result.Result.{Result}
 use Rattle.std.specs.declared.result.Result.the-variants.{Ok, Err}
 use Rattle.console.specs.declared.command.Command.{Command}
 use Rattle.console.specs.declared.command.Command.the-variants as command
-use Rattle.console.specs.declared.error.LineError.{LineError}
-use Rattle.console.specs.declared.error.LineError.the-variants.{Unknown}
+use Rattle.text.specs.declared.error.LineError.{LineError}
+use Rattle.text.specs.declared.error.LineError.the-variants.{Unknown}
 use Rattle.console.specs.declared.verb.HostKind.{HostKind}
 use Rattle.console.specs.declared.verb.HostKind.the-variants as kind
 use Rattle.console.specs.declared.verb.Shape.{Shape}
 use Rattle.console.specs.declared.verb.Shape.the-variants as shape
 use Rattle.console.specs.declared.verb.Verb.{Verb}
 use Rattle.console.specs.declared.verb.Verb.the-variants as verb
-use Rattle.console.specs.Answers.{then}
-use Rattle.console.specs.Arguments.{bytesOf, countOf, maskOf, roomOf, rowOf, capacityOf, valueOf, tableFrom, taken, ended}
+use Rattle.text.specs.Answers.{then}
+use Rattle.text.specs.Arguments.{bytesOf, countOf, maskOf, roomOf, rowOf, capacityOf, valueOf, tableFrom, taken, ended}
 use Rattle.console.specs.Verbs.{hostOf, shapeOf, verbOf}
-use Rattle.console.specs.Words.{wordsOf}
+use Rattle.text.specs.Words.{wordsOf}
 
 -- a command, with the bytes that it holds
 pub data Request : Type 0 where

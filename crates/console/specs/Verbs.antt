@@ -8,8 +8,8 @@ use Rattle.std.specs.declared.option.Option.{Option}
 use Rattle.std.specs.declared.option.Option.the-variants.{Some, None}
 use Rattle.std.specs.declared.result.Result.{Result}
 use Rattle.std.specs.declared.result.Result.the-variants.{Ok, Err}
-use Rattle.console.specs.declared.error.LineError.{LineError}
-use Rattle.console.specs.declared.error.LineError.the-variants as error
+use Rattle.text.specs.declared.error.LineError.{LineError}
+use Rattle.text.specs.declared.error.LineError.the-variants as error
 use Rattle.console.specs.declared.verb.HostKind.{HostKind}
 use Rattle.console.specs.declared.verb.HostKind.the-variants as kind
 use Rattle.console.specs.declared.verb.Shape.{Shape}

@@ -1,17 +1,17 @@
 // The commands, and the lines that give them.
 ghost use mathlib.Core.Path.{_≡_};
 ghost use Rattle.std.specs.Options.{mapped};
-ghost use Rattle.console.specs.Answers.{Gives};
-ghost use Rattle.console.specs.Arguments.{Takes};
+ghost use Rattle.text.specs.Answers.{Gives};
+ghost use Rattle.text.specs.Arguments.{Takes};
 ghost use Rattle.console.specs.Commands.{asked, comment, hostAsked, levelsAsked, request, requestOf};
-ghost use Rattle.console.specs.Words.{left};
-use crate::error::LineError;
+ghost use Rattle.text.specs.Words.{left};
 use crate::verb::HostKind;
 use crate::verb::Shape;
 use crate::verb::Verb;
-use crate::words::Entry;
-use crate::words::Words;
 use std::alloc::Global;
+use text::error::LineError;
+use text::words::Entry;
+use text::words::Words;
 
 // What a line asks for, with the files and numbers that it gives.
 #[derive(Drop)]

@@ -1,8 +1,8 @@
 // The names of the commands.
 ghost use mathlib.Core.Path.{_≡_};
 ghost use Rattle.console.specs.Verbs.{hostOf, shapeOf, verbOf};
-use crate::error::LineError;
-use crate::words::is_name;
+use text::error::LineError;
+use text::words::is_name;
 
 // What a line asks for, by its first word.
 #[derive(Clone, Copy, PartialEq, Eq, Debug)]
