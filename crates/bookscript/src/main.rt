@@ -1,4 +1,6 @@
 // The tool of authors and makers of scripts: it answers the lines that it reads.
+#![tactic(auto)]
+
 mod answer;
 mod hosted;
 mod levels;

@@ -1,4 +1,6 @@
 // The package Class: what Page has, and levels in compartments.
+#![tactic(auto)]
+
 pub mod compartments;
 
 pub use page::{

@@ -1,4 +1,6 @@
 // A maker's main loop over the package Class: a book for a family, with levels in compartments.
+#![tactic(auto)]
+
 use class::compartments::Compartments;
 use class::slots::SlotHost;
 use class::{Script, Visit, read_script};

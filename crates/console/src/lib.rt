@@ -1,3 +1,5 @@
 // The commands that a line of the command-line tool can hold.
+#![tactic(auto)]
+
 pub mod command;
 pub mod verb;

@@ -1,4 +1,6 @@
 // What a visit remembers, and the rules by which its copies go on.
+#![tactic(auto)]
+
 pub mod arithmetic;
 pub mod replica;
 pub mod rules;

@@ -1,5 +1,7 @@
 // The fields of a record: reading one, and the rules that one can break. The fault of a field goes up from here
 // through records to files.
+#![tactic(auto)]
+
 ghost use Rattle.std.specs.Prelude.{◌≡◌, ◌+◌, ◌-◌, ◌*◌, ◌<◌, true, false, not, ◌&&◌, ◌||◌, length, ◌==◌, nat_lt};
 ghost use Rattle.refusal.specs.declared.Refusal.TheVariants.{Map, Range, Zero};
 ghost use Rattle.format.specs.Numbers.{bit};

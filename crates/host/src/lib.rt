@@ -1,2 +1,4 @@
 // Channels of values between the engine and the world.
+#![tactic(auto)]
+
 pub mod calls;

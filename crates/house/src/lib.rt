@@ -1,4 +1,6 @@
 // The package House: what Class has, levels by order maps, the strip host, and types for any of the regimes and hosts.
+#![tactic(auto)]
+
 pub mod any_regime;
 pub mod order_map;
 

@@ -1,5 +1,7 @@
 // A maker's main loop over the package House: two publishers that may not hear of each other, by an order map, over a host
 // of the maker's own.
+#![tactic(auto)]
+
 use house::order_map::OrderMap;
 use house::{Refusal, Script, Visit, read_script};
 use own_host::lanes::HeapHost;

@@ -1,4 +1,6 @@
 // A maker's main loop over the package Page: what the reader does goes to the script, and its report comes out.
+#![tactic(auto)]
+
 use page::ladder::Ladder;
 use page::slots::SlotHost;
 use page::{Refusal, Script, Turned, Visit, read_script};

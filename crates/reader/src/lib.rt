@@ -1,3 +1,5 @@
 // Reading script files that nobody trusts, and splitting them into their records.
+#![tactic(auto)]
+
 pub mod file;
 pub mod split;

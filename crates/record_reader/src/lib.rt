@@ -1,3 +1,5 @@
 // Reading one record of a script file: a channel or an instruction.
+#![tactic(auto)]
+
 pub mod channel;
 pub mod instruction;

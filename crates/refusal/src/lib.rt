@@ -1,4 +1,6 @@
 // Every refusal of the product, with its number, and the place that a refusal of a file tells.
+#![tactic(auto)]
+
 ghost use Rattle.std.specs.Prelude.{◌≡◌};
 ghost use Rattle.refusal.specs.Numbers.{number_of, name_of};
 

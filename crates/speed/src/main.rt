@@ -1,5 +1,7 @@
 // How fast the engine is. Sizes, counts and sums go to standard output, which is thus the same in every run; times go to
 // standard error.
+#![tactic(auto)]
+
 mod files;
 mod loads;
 mod runs;

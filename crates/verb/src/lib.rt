@@ -1,4 +1,6 @@
 // The names of the commands.
+#![tactic(auto)]
+
 ghost use Rattle.std.specs.Prelude.{◌≡◌};
 ghost use Rattle.verb.specs.Verbs.{file_verb_of, host_of, part_verb_of, shape_of, verb_of, visit_verb_of};
 
