@@ -1,19 +1,16 @@
 -- What a script holds: accepted models, each by one value. Assumes nothing.
-use Rattle.std.proofs.Common.{◌≡◌, ℕ, ◌<◌, ◌≤◌, Bool, true, false, ◌&&◌, ltb, List, length, get_or, take, sym, refl, ap, ◌∙◌, subst, arith}
-use denote.Struct.Record.{values_one}
+use Rattle.std.proofs.Common.{◌≡◌, ℕ, ◌<◌, true, ltb, List, length, get_or, take, sym, refl, ap, ◌∙◌, subst, arith}
 use Rattle.std.proofs.lemmas.List.{get_or-take, length-take-le}
 use Rattle.std.proofs.lemmas.Bool.{and_parts, and_from, ltb-true}
-use Rattle.script.specs.contracts.parts.Channel.{the_row as channel_row}
-use Rattle.script.specs.contracts.parts.Instruction.{the_row as instruction_row}
-use Rattle.script.specs.contracts.accepted.Script.{struct, the_propositions}
 use Rattle.script.specs.declared.parts.Direction.{Direction}
 use Rattle.script.specs.declared.parts.Direction.TheVariants.{In, Out}
 use Rattle.script.specs.declared.parts.Channel.{Channel}
 use Rattle.script.specs.declared.parts.Instruction.{Instruction}
 use Rattle.script.specs.declared.parts.Instruction.TheVariants.{Skip, Set, Compute, Jump, Input, Output, Stop}
 use Rattle.script.specs.declared.accepted.Script.{Script}
+use Rattle.script.specs.EqualScripts.{one_value}
 use Rattle.script.specs.Laws.{blank, same, directed, sound, Below, Sound}
-use Rattle.script.specs.Model.{Model, model_of, Accepted, EveryScriptAccepted, SameScript}
+use Rattle.script.specs.Model.{Model, model_of, EveryScriptAccepted, SameScript}
 use Rattle.script.proofs.Tables.{same_table}
 
 -- a channel among the first c is the same in the table and in its used part
@@ -59,10 +56,6 @@ every_script_accepted s =
           let there = subst (λ (i : Instruction). sound cs c m i ≡ true) (sym (get_or-take m s.instructions k Skip lt')) here in
           subst (λ j. sound cs (length cs) j (get_or is k Skip) ≡ true) (sym em) (subst (λ j. sound cs j m (get_or is k Skip) ≡ true) (sym ec) there);
     }
-
--- a script is known by its counts and tables
-pub one_value : (s t : Script) → s.levels ≡ t.levels → s.channel_count ≡ t.channel_count → s.channels ≡ t.channels → s.instruction_count ≡ t.instruction_count → s.instructions ≡ t.instructions → s ≡ t
-one_value s t levels c cs m is = values_one struct (the_propositions channel_row.coded instruction_row.coded) s t (λ i. (levels i, (c i, (cs i, (m i, (is i, tt))))))
 
 pub same_script : SameScript
 same_script s t e =

@@ -1,5 +1,5 @@
 -- The numbers of directions and kinds, and the fields of each kind of instruction. Assumes nothing.
-use Rattle.std.specs.Prelude.{ℕ, ℤ, pos}
+use Rattle.std.specs.Prelude.{ℕ, pos}
 use Rattle.script.specs.declared.parts.Direction.{Direction}
 use Rattle.script.specs.declared.parts.Direction.TheVariants.{In, Out}
 use Rattle.script.specs.declared.parts.Operation.{Operation}

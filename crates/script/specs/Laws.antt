@@ -1,5 +1,5 @@
 -- What every accepted script keeps. Assumes nothing.
-use Rattle.std.specs.Prelude.{◌≡◌, ℕ, ◌<◌, ◌≤◌, Bool, true, false, ◌&&◌, List, length, get_or, ℤ, pos, negsuc, nat_le, nat_lt, slice_index_or}
+use Rattle.std.specs.Prelude.{◌≡◌, ℕ, ◌<◌, ◌≤◌, Bool, true, false, ◌&&◌, List, get_or, ℤ, pos, negsuc, nat_le, nat_lt, slice_index_or}
 use Rattle.script.specs.declared.parts.Direction.{Direction}
 use Rattle.script.specs.declared.parts.Direction.TheVariants.{In, Out}
 use Rattle.script.specs.declared.parts.Channel.{Channel}

@@ -1,8 +1,7 @@
 // What a script is made of: channels and instructions.
 ghost use Rattle.std.specs.Prelude.{◌≡◌, pos, Decides};
 ghost use Rattle.script.specs.Kinds.{code_of, kind_of, fields_of};
-ghost use Rattle.std.specs.Cmp.Rules.{comparing};
-ghost use Rattle.std.proofs.Common.{rules};
+ghost use Rattle.script.specs.Equal.{same_channel, same_channel_decides, same_instruction, same_instruction_decides};
 ghost use Rattle.std.specs.Cmp as Keys;
 
 // Whether values come in by a channel or go out by it.
@@ -162,30 +161,36 @@ impl Instruction {
 }
 
 impl PartialEq for Channel {
-    ghost equals = { λ x y r. Decides r (x ≡ y) };
+    ghost eq = { same_channel };
 
-    ghost laws = { Keys.partial_equiv_from_equiv (Prim.search (comparing, rules)) };
+    ghost laws = { Keys.partial_equiv_from_equiv (Keys.decided same_channel same_channel_decides) };
 
-    fn eq(&self, other: &Channel) -> bool {
+    fn eq(&self, other: &Channel) -> bool
+        ensures value { result ≡ same_channel self.now other.now }
+        ensures same { Decides result (self.now ≡ other.now) }
+    {
         self.direction == other.direction && self.level == other.level
     }
 }
 
 impl Eq for Channel {
-    ghost laws = { Prim.search (comparing, rules) };
+    ghost laws = { Keys.decided same_channel same_channel_decides };
 }
 
 impl PartialEq for Instruction {
-    ghost equals = { λ x y r. Decides r (x ≡ y) };
+    ghost eq = { same_instruction };
 
-    ghost laws = { Keys.partial_equiv_from_equiv (Prim.search (comparing, rules)) };
+    ghost laws = { Keys.partial_equiv_from_equiv (Keys.decided same_instruction same_instruction_decides) };
 
     // An instruction is known by its fields.
-    fn eq(&self, other: &Instruction) -> bool {
+    fn eq(&self, other: &Instruction) -> bool
+        ensures value { result ≡ same_instruction self.now other.now }
+        ensures same { Decides result (self.now ≡ other.now) }
+    {
         self.fields() == other.fields()
     }
 }
 
 impl Eq for Instruction {
-    ghost laws = { Prim.search (comparing, rules) };
+    ghost laws = { Keys.decided same_instruction same_instruction_decides };
 }

@@ -1,7 +1,6 @@
 // Equality of scripts.
 ghost use Rattle.std.specs.Prelude.{◌≡◌, Decides};
-ghost use Rattle.std.specs.Cmp.Rules.{comparing};
-ghost use Rattle.std.proofs.Common.{rules, arith};
+ghost use Rattle.script.specs.EqualScripts.{same_script, same_script_decides};
 ghost use Rattle.std.specs.Cmp as Keys;
 
 use crate::accepted::Script;
@@ -21,11 +20,14 @@ fn same_instructions(a: &[Instruction; 256], b: &[Instruction; 256]) -> bool
 
 // Two scripts are the same exactly where counts and tables are: unused slots are blank.
 impl PartialEq for Script {
-    ghost equals = { λ x y r. Decides r (x ≡ y) };
+    ghost eq = { same_script };
 
-    ghost laws = { Keys.partial_equiv_from_equiv (first_of (Prim.search (comparing, rules), Prim.grind (arith, Self.row.coded.inj))) };
+    ghost laws = { Keys.partial_equiv_from_equiv (Keys.decided same_script same_script_decides) };
 
-    fn eq(&self, other: &Script) -> bool {
+    fn eq(&self, other: &Script) -> bool
+        ensures value { result ≡ same_script self.now other.now }
+        ensures same { Decides result (self.now ≡ other.now) }
+    {
         if self.levels != other.levels || self.channel_count != other.channel_count {
             return false;
         }
@@ -39,5 +41,5 @@ impl PartialEq for Script {
 }
 
 impl Eq for Script {
-    ghost laws = { first_of (Prim.search (comparing, rules), Prim.grind (arith, Self.row.coded.inj)) };
+    ghost laws = { Keys.decided same_script same_script_decides };
 }

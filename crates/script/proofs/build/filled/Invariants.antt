@@ -1,4 +1,3 @@
-use Rattle.std.proofs.Common.{◌≡◌, length, take}
 use Rattle.script.proofs.Tables.{Filled}
 use Rattle.script.proofs.build.filled.Given as goal
 

@@ -1,6 +1,6 @@
-use Rattle.std.proofs.lemmas.Slice.Eq.{slice_eq-Decides}
+use Rattle.std.specs.Cmp.Lexicographic.{pointwise_decides}
+use Rattle.script.specs.Equal.{same_channel_decides}
 use Rattle.script.proofs.same.same_channels.Goals as goal
-use Rattle.std.proofs.lemmas.Bool.Decides.{Decides-eqb}
 
 pub returns : goal.returns
-returns c = slice_eq-Decides Decides-eqb _ _ _ c.eq.ensures
+returns c = rw c.eq.ensures (pointwise_decides same_channel_decides _ _)

@@ -1,22 +1,16 @@
-use Rattle.std.proofs.Common.{◌≡◌, sym, refl, subst}
-use Rattle.std.proofs.lemmas.Result.{err_from_is_err_and}
-use Rattle.script.specs.Flaws.{Flawed}
 use Rattle.script.proofs.Held.{below_table, all_sound_table}
 use Rattle.script.proofs.accepted.Script.new.Goals as goal
 
-pub invariant-of-result : goal.invariant-of-result
-invariant-of-result c =
+pub invariant_of-result : goal.invariant_of-result
+invariant_of-result c =
     let channels = c.filled.ensures in
-    let instructions = c.filled-2.ensures in (
-      c.in-ok-judge-head.ensures,
-      (
-        c.in-ok-judge-count.ensures,
-        (
-          below_table c.args.levels c.filled.result c.args.channels.now channels.front c.in-ok-judge-channels.ensures,
-          (
-            all_sound_table c.filled.result c.args.channels.now c.filled-2.result c.args.instructions.now channels.front instructions.front c.in-ok-judge-instructions.ensures,
-            ((channels.size, instructions.size), (channels.unused, (instructions.unused, tt))),
-          ),
-        ),
-      ),
-    )
+    let instructions = c.filled-2.ensures in
+    record {
+      headed = c.in_ok-judge_head.ensures;
+      counted = c.in_ok-judge_count.ensures;
+      below = below_table c.args.levels c.filled.result c.args.channels.now channels.front c.in_ok-judge_channels.ensures;
+      sound = all_sound_table c.filled.result c.args.channels.now c.filled-2.result c.args.instructions.now channels.front instructions.front c.in_ok-judge_instructions.ensures;
+      tables = (channels.size, instructions.size);
+      unused_channels = channels.unused;
+      unused_instructions = instructions.unused;
+    }
