@@ -1,6 +1,6 @@
 -- The channel record's round trip. Assumes nothing.
-use Rattle.std.proofs.Common.{◌≡◌, ℕ, zero, suc, ◌+◌, ◌-◌, ◌*◌, ◌^◌, ◌<◌, ◌≤◌, Bool, true, false, cond, eqb, ltb, leb, List, [], ◌∷◌, ◌++◌, map, length, get_or, Some, None, Ok, Err, sym, refl, ap, ◌∙◌, subst, arith, lit<}
-use Rattle.std.proofs.lemmas.Bool.{lt-ltb, ltb-true, eq-eqb, ne_eqb, cond-true, cond-false}
+use Rattle.std.proofs.Common.{◌≡◌, ℕ, zero, suc, ◌<◌, ◌≤◌, true, ltb, List, [], ◌∷◌, ◌++◌, map, get_or, None, Ok, sym, refl, ap, ◌∙◌, subst, arith, lit<}
+use Rattle.std.proofs.lemmas.Bool.{lt-ltb, ltb-true, cond-true}
 use Rattle.script.specs.declared.parts.Direction.{Direction}
 use Rattle.script.specs.declared.parts.Direction.TheVariants.{In, Out}
 use Rattle.script.specs.declared.parts.Channel.{Channel}
@@ -9,8 +9,8 @@ use Rattle.format.specs.declared.layout.Site.{Site}
 use Rattle.format.specs.declared.layout.Field.{Field}
 use Rattle.format.specs.Numbers.{Bytes}
 use Rattle.format.specs.Encoding.{channel_widths, record_of, encode_channel}
-use Rattle.format.specs.Rules.{Rule, broken, channel_rules, in_range, at, none}
-use Rattle.format.specs.Reading.{unless, channel_of, direction_of, site_at, read_channel}
+use Rattle.format.specs.Rules.{broken, channel_rules, in_range, at}
+use Rattle.format.specs.Reading.{channel_of, direction_of, site_at, read_channel}
 use Rattle.script.specs.Kinds.{code_of}
 use Rattle.format.proofs.Steps.{passed, all_kept}
 use Rattle.format.proofs.Round.{Fit, value_of, read_record_lem, write_record}

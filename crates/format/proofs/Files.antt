@@ -1,5 +1,5 @@
 -- The file's round trip, and reading as a function against the first fault as a relation. Assumes nothing.
-use Rattle.std.proofs.Common.{◌≡◌, ℕ, zero, suc, ◌+◌, ◌-◌, ◌<◌, ◌≤◌, true, ◌⊎◌, List, [], ◌∷◌, ◌++◌, length, Ok, Err, Result, sym, refl, ap, ◌∙◌, subst, inl, inr, ⊎_elim, append-nil, arith, length-append}
+use Rattle.std.proofs.Common.{◌≡◌, ℕ, ◌+◌, ◌-◌, ◌<◌, true, List, [], ◌∷◌, ◌++◌, length, Ok, Err, sym, refl, ap, ◌∙◌, subst, ⊎_elim, append-nil, arith, length-append}
 use Rattle.refusal.specs.declared.Refusal.TheVariants as why
 use Rattle.refusal.specs.declared.Part.TheVariants as part
 use Rattle.refusal.specs.declared.Fault.{Fault}
@@ -13,7 +13,7 @@ use Rattle.format.specs.Rules.{fault}
 use Rattle.format.specs.Reading.{and_then, read_channel, read_instruction, read_head, read_count, read_tail, read_channels, read_instructions, read_file}
 use Rattle.format.specs.Refusals.{ChannelsRight, InstructionsRight, Refused}
 use Rattle.format.proofs.Round.{and_then_ok}
-use Rattle.format.proofs.Fronts.{stop, and_then_err, bytes_after, many_stopped, head_read, head_ok, count_ok, channels_stop, instructions_stop, from_tail_lem, from_instructions, from_count, from_channels, from_width, from_levels, past_head, past_channels, past_count, past_instructions, channels_stand, head_bytes, channel_each, instruction_each, channels_stood, instructions_stand, instructions_stood, model_right, right_model}
+use Rattle.format.proofs.Fronts.{stop, and_then_err, bytes_after, many_stopped, head_read, head_ok, count_ok, channels_stop, instructions_stop, from_tail, from_instructions, from_count, from_channels, from_width, from_levels, past_head, past_channels, past_count, past_instructions, channels_stand, head_bytes, channel_each, instruction_each, channels_stood, instructions_stand, instructions_stood, model_right, right_model}
 
 -- an accepted model that is written is read again as it was
 pub file_read_again : (s : Model) → Accepted s → read_file (encode_model s) ≡ Ok s
@@ -38,7 +38,7 @@ file_read bs s h e =
     let cs = d.0 in
     let f = and_then_ok (read_count end cs.1) (λ m. from_instructions end n.0 cs.0 m.0 m.1) s d.2 in
     let m = f.0 in
-    let g = and_then_ok (read_instructions end cs.0 m.0 m.1) (λ is. from_tail_lem end n.0 cs.0 is.0 is.1) s f.2 in
+    let g = and_then_ok (read_instructions end cs.0 m.0 m.1) (λ is. from_tail end n.0 cs.0 is.0 is.1) s f.2 in
     let is = g.0 in
     let t = tail_ok end _ s is.1 g.2 in
     let front = channels_stood end bs n.0 n.1 c.0 c.1 cs.0 cs.1 h a.1 b.1 d.1 in
@@ -62,8 +62,8 @@ refused_read bs f (Refused.in_channel n c cs rest r lt g) =
 refused_read bs f (Refused.in_count n cs rest r g) = past_channels (length bs) bs n cs rest r ∙ stop _ f (λ m. from_instructions (length bs) n cs m.0 m.1) g
 refused_read bs f (Refused.in_instruction n cs m is rest r lt g) =
     past_count (length bs) bs n cs m is rest r
-    ∙ stop _ f (λ x. from_tail_lem (length bs) n cs x.0 x.1) (instructions_stop (length bs) cs m r.headed.2 r.counted.1 is rest f r.sound lt g)
-refused_read bs f (Refused.in_Tail s b rest h e g) =
+    ∙ stop _ f (λ x. from_tail (length bs) n cs x.0 x.1) (instructions_stop (length bs) cs m r.headed.2 r.counted.1 is rest f r.sound lt g)
+refused_read bs f (Refused.in_tail s b rest h e g) =
     let end = length bs in
     let place : end - length (b ∷ rest) ≡ length (encode_model s) = omega (arith, ap length e, length-append (encode_model s) (b ∷ rest)) in
     ap (from_levels end) e
@@ -73,14 +73,14 @@ refused_read bs f (Refused.in_Tail s b rest h e g) =
 
 -- and what reading answers is the first fault
 module _ (bs : List ℕ) (f : Fault) (h : Bytes bs) where
-  from_tail_lem : (n : ℕ) (cs : List Channel) (is : List Instruction) (rest : List ℕ) → InstructionsRight bs n cs (length is) is rest → from_tail_lem (length bs) n cs is rest ≡ Err f → Refused bs f
+  from_tail_lem : (n : ℕ) (cs : List Channel) (is : List Instruction) (rest : List ℕ) → InstructionsRight bs n cs (length is) is rest → from_tail (length bs) n cs is rest ≡ Err f → Refused bs f
   from_tail_lem n cs is [] r e = let z : ◌≡◌ {A = ℕ} 0 1 = cc in absurd (omega arith)
   from_tail_lem n cs is (b ∷ rest) r e =
       let s : Model = record { levels = n; channels = cs; instructions = is } in
       let both = model_right bs n cs is (b ∷ rest) r in
       let place : length bs - length (b ∷ rest) ≡ length (encode_model s) = omega (arith, ap length both.1, length-append (encode_model s) (b ∷ rest)) in
       let told : fault why.Tail (length bs - length (b ∷ rest)) part.Tail ≡ f = cc in
-      Refused.in_Tail s b rest both.0 (sym both.1) (sym told ∙ ap (λ p. fault why.Tail p part.Tail) place)
+      Refused.in_tail s b rest both.0 (sym both.1) (sym told ∙ ap (λ p. fault why.Tail p part.Tail) place)
 
   from_instructions_lem : (n : ℕ) (cs : List Channel) (r3 : List ℕ) (m : ℕ) (r4 : List ℕ) → Bytes r3 → ChannelsRight bs n (length cs) cs r3 → read_count (length bs) r3 ≡ Ok (m, r4) → from_instructions (length bs) n cs m r4 ≡ Err f → Refused bs f
   from_instructions_lem n cs r3 m r4 h3 r e4 e =
@@ -92,7 +92,7 @@ module _ (bs : List ℕ) (f : Fault) (h : Bytes bs) where
       let place : 0 + length w.0 ≡ length w.0 = omega arith in
       Refused.in_instruction n cs m w.0 w.1 (instructions_stand bs n cs r3 end m r4 h3 r e4 w.0 w.1 w.2 w.3) w.4 (subst (λ j. read_instruction end j cs m w.1 ≡ Err f) place w.5))
       (λ g. from_tail_lem n cs g.0.0 g.0.1 (instructions_stood bs n cs r3 end m r4 g.0.0 g.0.1 h3 r e4 g.1) g.2)
-      (and_then_err (read_instructions end cs m r4) (λ x. from_tail_lem end n cs x.0 x.1) f e)
+      (and_then_err (read_instructions end cs m r4) (λ x. from_tail end n cs x.0 x.1) f e)
 
   from_count_lem : (n : ℕ) (cs : List Channel) (r3 : List ℕ) → Bytes r3 → ChannelsRight bs n (length cs) cs r3 → from_count (length bs) n cs r3 ≡ Err f → Refused bs f
   from_count_lem n cs r3 h3 r e =

@@ -1,5 +1,5 @@
 -- Records one after another, and the front of a file up to each stage of its reading. Assumes nothing.
-use Rattle.std.proofs.Common.{◌≡◌, ℕ, zero, suc, ◌+◌, ◌-◌, ◌*◌, ◌/◌, ◌%◌, ◌<◌, ◌≤◌, Bool, true, false, cond, ◌&&◌, leb, ◌⊎◌, List, [], ◌∷◌, ◌++◌, length, get_or, Ok, Err, Result, sym, refl, ap, ◌∙◌, subst, inl, inr, ⊎_elim, append_assoc, append-nil, arith}
+use Rattle.std.proofs.Common.{◌≡◌, ℕ, zero, suc, ◌+◌, ◌*◌, ◌/◌, ◌%◌, ◌<◌, ◌≤◌, true, false, ◌&&◌, leb, ◌⊎◌, List, [], ◌∷◌, ◌++◌, length, Ok, Err, Result, sym, refl, ap, ◌∙◌, subst, inl, inr, ⊎_elim, append_assoc, arith}
 use Rattle.std.specs.List.{flat_map, AllByRecursion as All}
 use Rattle.std.proofs.lemmas.Bool.{le-leb, leb-true, and_from, and_parts, cond-true, cond-false, cases_Bool}
 use Rattle.std.proofs.ByRecursion.{All-get_or, All-from_get_or}
@@ -11,7 +11,7 @@ use Rattle.script.specs.Laws.{blank, sound, Headed, Counted, Below, Sound}
 use Rattle.script.specs.Model.{Model, Accepted}
 use Rattle.format.specs.Numbers.{bytes_of, Bytes}
 use Rattle.format.specs.Encoding.{encode_channel, encode_instruction, encode_model}
-use Rattle.format.specs.Reading.{and_then, read_channel, read_instruction, read_many, read_head, read_count, read_tail, read_channels, read_instructions, read_file}
+use Rattle.format.specs.Reading.{and_then, read_channel, read_instruction, read_many, read_head, read_count, read_tail, read_channels, read_instructions}
 use Rattle.format.specs.Refusals.{ChannelsRight, InstructionsRight}
 use Rattle.format.proofs.Round.{and_then_ok, parts}
 use Rattle.format.proofs.Channels.{read_again, written_again}

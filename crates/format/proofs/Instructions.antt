@@ -1,23 +1,22 @@
 -- The instruction record's round trip. Assumes nothing.
-use Rattle.std.proofs.Common.{◌≡◌, ℕ, zero, suc, ◌+◌, ◌-◌, ◌*◌, ◌^◌, ◌<◌, ◌≤◌, Bool, true, false, cond, not, ◌&&◌, ◌||◌, eqb, ltb, leb, List, [], ◌∷◌, ◌++◌, map, length, get_or, ℤ, Some, None, Ok, Err, sym, refl, ap, ◌∙◌, subst, arith, lit<, w32, Fits, SFits, to_z, of_z}
+use Rattle.std.proofs.Common.{◌≡◌, ℕ, zero, suc, ◌^◌, ◌<◌, ◌≤◌, Bool, true, false, cond, not, ◌||◌, eqb, ltb, leb, List, [], ◌∷◌, ◌++◌, map, length, get_or, ℤ, None, Ok, sym, refl, ap, ◌∙◌, subst, arith, lit<, w32, Fits, SFits, to_z, of_z}
 use mir.Facts.{Fits-of_z, sfits_to_z}
-use Rattle.std.proofs.lemmas.Int.{to_z-of_z, of_z-to_z, ints}
-use Rattle.std.proofs.lemmas.Bool.{lt-ltb, ltb-true, leb-true, and_parts, cond-true, cond-false, and_from, le-leb, leb-false, eqb-true, eqb-false, ne_eqb, cond_both, or_left, or_right, or_from}
+use Rattle.std.proofs.lemmas.Int.{to_z-of_z, of_z-to_z}
+use Rattle.std.proofs.lemmas.Bool.{ltb-true, leb-true, and_parts, cond-true, cond-false, and_from, le-leb, leb-false, eqb-true, eqb-false, ne_eqb, cond_both, or_left, or_right, or_from}
 use Rattle.std.specs.List.{AllByRecursion as All}
-use Rattle.script.specs.declared.parts.Direction.TheVariants.{In, Out}
 use Rattle.script.specs.declared.parts.Channel.{Channel}
 use Rattle.script.specs.declared.parts.Operation.{Operation}
 use Rattle.script.specs.declared.parts.Operation.TheVariants.{Add, Subtract, Multiply, Quotient, Remainder, Less, Same}
 use Rattle.script.specs.declared.parts.Instruction.{Instruction}
 use Rattle.script.specs.declared.parts.Instruction.TheVariants.{Skip, Set, Compute, Jump, Input, Output, Stop}
-use Rattle.script.specs.Laws.{sound, directed}
+use Rattle.script.specs.Laws.{sound}
 use Rattle.refusal.specs.declared.Part.TheVariants as part
 use Rattle.format.specs.declared.layout.Site.{Site}
 use Rattle.format.specs.declared.layout.Field.{Field}
 use Rattle.format.specs.Numbers.{Bytes}
 use Rattle.format.specs.Encoding.{instruction_widths, record_of, instruction_values, encode_instruction}
-use Rattle.format.specs.Rules.{Rule, broken, at, none, uses_target, uses_first, uses_second, uses_number, uses_place, uses_channel, suits, instruction_rules, kind_rules, range_rules}
-use Rattle.format.specs.Reading.{unless, site_at, instruction_of, operation_of, read_instruction}
+use Rattle.format.specs.Rules.{Rule, broken, at, uses_target, uses_first, uses_second, uses_number, uses_place, uses_channel, suits, instruction_rules, kind_rules, range_rules}
+use Rattle.format.specs.Reading.{site_at, instruction_of, operation_of, read_instruction}
 use Rattle.script.specs.Kinds.{kind_of}
 use Rattle.format.proofs.Words.{word_fits, fits_word}
 use Rattle.format.proofs.Steps.{passed, all_kept}

@@ -1,8 +1,8 @@
 -- Reading what is written, and writing what is read. Assumes nothing.
-use Rattle.std.proofs.Common.{◌≡◌, ℕ, zero, suc, ◌+◌, ◌-◌, ◌*◌, ◌/◌, ◌%◌, ◌^◌, ◌<◌, ◌≤◌, Bool, true, false, cond, not, ◌&&◌, eqb, ltb, leb, List, [], ◌∷◌, ◌++◌, map, length, get_or, take, drop, Some, None, Ok, Err, Option, Result, sym, refl, ap, ◌∙◌, subst, ⊎_elim, append_assoc, pow-suc, arith, lit<, lit≤, length-append}
+use Rattle.std.proofs.Common.{◌≡◌, ℕ, zero, suc, ◌+◌, ◌-◌, ◌*◌, ◌/◌, ◌%◌, ◌^◌, ◌<◌, ◌≤◌, Bool, true, false, cond, not, ◌&&◌, eqb, ltb, leb, List, [], ◌∷◌, ◌++◌, map, length, take, drop, Some, None, Ok, Err, Option, Result, sym, refl, ap, ◌∙◌, subst, ⊎_elim, append_assoc, pow-suc, arith, lit<, lit≤, length-append}
 use native.Mathlib.Nat.{one-le-pow}
 use Rattle.std.specs.List.{AllByRecursion as All}
-use Rattle.std.proofs.lemmas.Bool.{lt-ltb, le-leb, cond-true, cond-false, cond_both, cases_Bool, false≢true, true≢false, not-true, eq-eqb, eqb-true, leb-true, ltb-true, eqb-false, ne_eqb}
+use Rattle.std.proofs.lemmas.Bool.{lt-ltb, le-leb, cond-true, cond-false, cond_both, cases_Bool, true≢false, not-true, eq-eqb, eqb-true, leb-true, ltb-true, eqb-false, ne_eqb}
 use Rattle.std.proofs.lemmas.List.{take_at, drop_at, take-append-drop, length-take-le}
 use Rattle.std.proofs.ByRecursion.{All-take, All-drop}
 use Rattle.refusal.specs.declared.Fault.{Fault}
@@ -10,9 +10,9 @@ use Rattle.format.specs.declared.layout.Site.{Site}
 use Rattle.format.specs.declared.layout.Field.{Field}
 use Rattle.format.specs.Numbers.{number, odd, bytes_of, Bytes}
 use Rattle.format.specs.Encoding.{map_of, body_of, record_of}
-use Rattle.format.specs.Rules.{fault, Rule, broken, not_zero}
+use Rattle.format.specs.Rules.{Rule, broken, not_zero}
 use Rattle.format.specs.Reading.{read_field, and_then, unless, read_fields, read_record}
-use Rattle.format.proofs.Steps.{fields_more, kept, all_kept, broken_append}
+use Rattle.format.proofs.Steps.{fields_more, all_kept, broken_append}
 
 pub length_bytes_of : (w v : ℕ) → length (bytes_of w v) ≡ w
 length_bytes_of zero v = refl

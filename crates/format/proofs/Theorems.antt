@@ -1,14 +1,13 @@
 -- The laws of files and refusals. Assumes nothing.
-use Rattle.std.proofs.Common.{◌≡◌, ℕ, zero, suc, ◌+◌, ◌-◌, ◌*◌, ◌^◌, ◌<◌, ◌≤◌, ◌&&◌, leb, ◌⊎◌, List, [], ◌∷◌, ◌++◌, length, get_or, take, drop, Ok, Err, Result, sym, refl, ap, ◌∙◌, subst, inl, inr, ⊎_elim, arith, length-append, length-drop}
+use Rattle.std.proofs.Common.{◌≡◌, ℕ, ◌+◌, ◌-◌, ◌*◌, ◌<◌, ◌≤◌, ◌&&◌, leb, ◌⊎◌, List, [], ◌∷◌, ◌++◌, length, get_or, take, drop, Ok, Err, Result, sym, refl, ap, ◌∙◌, subst, inl, inr, ⊎_elim, arith, length-append, length-drop}
 use mathlib.Core.Path.{fun_ext}
-use Rattle.std.specs.List.{flat_map, AllByRecursion as All}
+use Rattle.std.specs.List.{flat_map}
 use Rattle.std.proofs.lemmas.List.{take-append-drop, length-take-le, drop_more, take_at}
 use Rattle.std.proofs.ByRecursion.{All-take}
 use Rattle.std.proofs.lemmas.Bool.{cases_eq, cases_Bool, cond-true, cond-false}
 use Rattle.refusal.specs.Numbers.{number_of}
 use Rattle.refusal.specs.declared.Refusal.{Refusal}
 use Rattle.refusal.specs.declared.Refusal.TheVariants as why
-use Rattle.refusal.specs.declared.Part.{Part}
 use Rattle.refusal.specs.declared.Part.TheVariants as part
 use Rattle.refusal.specs.declared.Fault.{Fault}
 use Rattle.script.specs.declared.parts.Channel.{Channel}
@@ -22,8 +21,8 @@ use Rattle.format.specs.Rules.{fault, channel_rules, instruction_rules}
 use Rattle.format.specs.Reading.{and_then, read_file, read_tail, read_head, read_channels, read_channel, channel_of, read_count, read_instructions, read_instruction, instruction_of}
 use Rattle.format.specs.Refusals.{Refused, Reads, ReadsBack, NoScript, ChannelsRight, InstructionsRight}
 use Rattle.format.specs.Laws.{OneFile, OneRefusal, AcceptedOrRefused, AcceptedNotRefused, PrefixIsShort, TailExactly, AppendedSame, ByteWithin, EveryByteWithin, record_size, InItsRecord}
-use Rattle.format.proofs.Fronts.{step, stop, and_then_err, from_tail, from_instructions, from_count, from_channels, from_width, from_levels}
-use Rattle.format.proofs.Steady.{Told, Steady, steady_none, steady_then, steady_many, steady_head, steady_count, steady_channel, steady_instruction, Lies, record_told, channel_local, instruction_local}
+use Rattle.format.proofs.Fronts.{step, stop, and_then_err, from_instructions, from_count, from_channels, from_width}
+use Rattle.format.proofs.Steady.{Told, Steady, steady_none, steady_then, steady_many, steady_head, steady_count, steady_channel, steady_instruction, record_told, channel_local, instruction_local}
 use Rattle.format.proofs.Files.{file_read_again, file_read, refused_read, read_refused}
 use Rattle.format.proofs.Encoded.{model_bytes, both_bytes}
 
@@ -106,7 +105,7 @@ refused_told bs f (Refused.in_width n rest e low high g) = inl (from_start (leng
 refused_told bs f (Refused.in_channel n c cs rest r lt g) = inl (from_start (length bs) _ f ((steady_channel n (length cs)).told (length bs) rest f (channels_room bs n c cs rest r) g))
 refused_told bs f (Refused.in_count n cs rest r g) = inl (from_start (length bs) _ f (steady_count.told (length bs) rest f (channels_room bs n (length cs) cs rest r) g))
 refused_told bs f (Refused.in_instruction n cs m is rest r lt g) = inl (from_start (length bs) _ f ((steady_instruction cs m (length is)).told (length bs) rest f (instructions_room bs n cs m is rest r) g))
-refused_told bs f (Refused.in_Tail s b rest h e g) = inr (s, b, rest, h, e, g)
+refused_told bs f (Refused.in_tail s b rest h e g) = inr (s, b, rest, h, e, g)
 
 pub every_byte_within : EveryByteWithin
 every_byte_within bs f r =
@@ -135,7 +134,7 @@ tail_exactly = record {
       let rest = drop_more bs p 0 lt in
       let whole : bs ≡ encode_model s ++ (get_or bs p 0 ∷ drop (p + 1) bs) = sym (take-append-drop p bs) ∙ ap (λ l. l ++ drop p bs) (sym e) ∙ ap (λ l. encode_model s ++ l) rest in
       let size : p ≡ length (encode_model s) = sym (length-take-le p bs (omega arith)) ∙ ap length (sym e) in
-      Refused.in_Tail s (get_or bs p 0) (drop (p + 1) bs) h whole (ap (λ k. fault why.Tail k part.Tail) size);
+      Refused.in_tail s (get_or bs p 0) (drop (p + 1) bs) h whole (ap (λ k. fault why.Tail k part.Tail) size);
 }
 
 -- a file but for its tail: the model, and what is left
@@ -281,7 +280,7 @@ in_channel_record bs f i (Refused.in_count n cs rest r g) p = let q = count_part
 in_channel_record bs f i (Refused.in_instruction n cs m is rest r lt g) p =
     let q = (record_told instruction_widths (instruction_rules cs m) instruction_of (instruction_local cs m) (part.Instruction (length is)) (length bs) rest f (instructions_room bs n cs m is rest r) g).part_is in
     let z : ◌≡◌ {A = ℕ} 0 1 = cc in absurd (omega arith)
-in_channel_record bs f i (Refused.in_Tail s b rest h e g) p = let q = ap (λ (g : Fault). g.part) g in let z : ◌≡◌ {A = ℕ} 0 1 = cc in absurd (omega arith)
+in_channel_record bs f i (Refused.in_tail s b rest h e g) p = let q = ap (λ (g : Fault). g.part) g in let z : ◌≡◌ {A = ℕ} 0 1 = cc in absurd (omega arith)
 
 in_instruction_record : (bs : List ℕ) (f : Fault) (i : ℕ) → Refused bs f → f.part ≡ part.Instruction i → (n : ℕ) × (cs : List Channel) × (m : ℕ) × (is : List Instruction) × (rest : List ℕ) × InstructionsRight bs n cs m is rest × (length is ≡ i) × (i < m) × (length bs - length rest ≤ f.byte) × (f.byte < length bs - length rest + record_size instruction_widths rest)
 in_instruction_record bs f i (Refused.in_levels e) p = let q = head_part (length bs) 1 16 bs f e in let z : ◌≡◌ {A = ℕ} 0 1 = cc in absurd (omega arith)
@@ -295,7 +294,7 @@ in_instruction_record bs f i (Refused.in_instruction n cs m is rest r lt g) p =
     let q = l.part_is in
     let same : length is ≡ i = cc in
     (n, cs, m, is, rest, r, same, omega arith, l.after, l.within)
-in_instruction_record bs f i (Refused.in_Tail s b rest h e g) p = let q = ap (λ (g : Fault). g.part) g in let z : ◌≡◌ {A = ℕ} 0 1 = cc in absurd (omega arith)
+in_instruction_record bs f i (Refused.in_tail s b rest h e g) p = let q = ap (λ (g : Fault). g.part) g in let z : ◌≡◌ {A = ℕ} 0 1 = cc in absurd (omega arith)
 
 pub in_its_record : InItsRecord
 in_its_record = record { channel = in_channel_record; instruction = in_instruction_record }
