@@ -6,55 +6,55 @@ use Rattle.script.proofs.Held.{channels_held, instructions_held}
 use Rattle.format.specs.Encoding.{encode_channel, encode_instruction, instruction_start}
 use Rattle.reader.proofs.Cuts.{Cut, channel_found, instruction_found, cut_stands}
 use Rattle.reader.proofs.split.split_record.Goals as goal
-use Rattle.reader.proofs.split.split_record.Goals.{After-channel-bounds-from, After-instruction-bounds-from}
+use Rattle.reader.proofs.split.split_record.Goals.{After-channel_bounds-from, After-instruction_bounds-from}
 
 -- the channel's record
-channel : (c : After-channel-bounds-from) → Cut c.args.file.now c.channel-bounds-from.result.0 c.channel-bounds-from.result.1 (encode_channel (get_or (model_of c.in-ok-script.script).channels c.args.index blank))
-channel c = channel_found c.args.file.now c.in-ok-script.script c.args.index _ _ c.in-ok-script.ensures.reads c.if-index-script.true c.channel-bounds-from.ensures.from c.channel-bounds-from.ensures.to
+channel : (c : After-channel_bounds-from) → Cut c.args.file.now c.channel_bounds-from.result.0 c.channel_bounds-from.result.1 (encode_channel (get_or (model_of c.in_ok-script.script).channels c.args.index blank))
+channel c = channel_found c.args.file.now c.in_ok-script.script c.args.index _ _ c.in_ok-script.ensures.reads c.if-index-script.true c.channel_bounds-from.ensures.from c.channel_bounds-from.ensures.to
 
 -- the instruction's record
-instruction : (c : After-instruction-bounds-from) → Cut c.args.file.now c.instruction-bounds-from.result.0 c.instruction-bounds-from.result.1 (encode_instruction (get_or (model_of c.in-ok-script.script).instructions (c.args.index - c.in-ok-script.script.channel_count) Skip))
-instruction c = instruction_found c.args.file.now c.in-ok-script.script (c.args.index - c.in-ok-script.script.channel_count) _ _ c.in-ok-script.ensures.reads c.if-place-script.true c.instruction-bounds-from.ensures.from c.instruction-bounds-from.ensures.to
+instruction : (c : After-instruction_bounds-from) → Cut c.args.file.now c.instruction_bounds-from.result.0 c.instruction_bounds-from.result.1 (encode_instruction (get_or (model_of c.in_ok-script.script).instructions (c.args.index - c.in_ok-script.script.channel_count) Skip))
+instruction c = instruction_found c.args.file.now c.in_ok-script.script (c.args.index - c.in_ok-script.script.channel_count) _ _ c.in_ok-script.ensures.reads c.if-place-script.true c.instruction_bounds-from.ensures.from c.instruction_bounds-from.ensures.to
 
-pub slice-bounds-result-count : goal.slice-bounds-result-count
-slice-bounds-result-count c = (channel (goal.at.slice-bounds-result-count c).After-channel-bounds-from).forward
+pub slice_bounds-result-count : goal.slice_bounds-result-count
+slice_bounds-result-count c = (channel (goal.at.slice_bounds-result-count c).After-channel_bounds-from).forward
 
-pub slice-bounds-result-start : goal.slice-bounds-result-start
-slice-bounds-result-start c = omega (arith, (channel (goal.at.slice-bounds-result-start c).After-channel-bounds-from).forward)
+pub slice_bounds-result-start : goal.slice_bounds-result-start
+slice_bounds-result-start c = omega (arith, (channel (goal.at.slice_bounds-result-start c).After-channel_bounds-from).forward)
 
-pub slice-bounds-result-end : goal.slice-bounds-result-end
-slice-bounds-result-end c = omega (arith, (channel (goal.at.slice-bounds-result-end c).After-channel-bounds-from).ends)
+pub slice_bounds-result-end : goal.slice_bounds-result-end
+slice_bounds-result-end c = omega (arith, (channel (goal.at.slice_bounds-result-end c).After-channel_bounds-from).ends)
 
 pub returns-then-index-script : goal.returns-then-index-script
 returns-then-index-script c =
-    let s = c.in-ok-script.script in
-    let it = channel (goal.at.returns-then-index-script c).After-channel-bounds-from in
+    let s = c.in_ok-script.script in
+    let it = channel (goal.at.returns-then-index-script c).After-channel_bounds-from in
     let below : c.args.index < length (model_of s).channels = omega (arith, channels_held s, c.if-index-script.true) in
-    (s, c.in-ok-script.ensures.reads, (below, c.channel-bounds-from.ensures.from, it.here, cut_stands _ _ _ _ it))
+    (s, c.in_ok-script.ensures.reads, (below, c.channel_bounds-from.ensures.from, it.here, cut_stands _ _ _ _ it))
 
-pub slice-bounds-result-count-then-place-script : goal.slice-bounds-result-count-then-place-script
-slice-bounds-result-count-then-place-script c = (instruction (goal.at.slice-bounds-result-count-then-place-script c).After-instruction-bounds-from).forward
+pub slice_bounds-result-count-then-place-script : goal.slice_bounds-result-count-then-place-script
+slice_bounds-result-count-then-place-script c = (instruction (goal.at.slice_bounds-result-count-then-place-script c).After-instruction_bounds-from).forward
 
-pub slice-bounds-result-start-then-place-script : goal.slice-bounds-result-start-then-place-script
-slice-bounds-result-start-then-place-script c = omega (arith, (instruction (goal.at.slice-bounds-result-start-then-place-script c).After-instruction-bounds-from).forward)
+pub slice_bounds-result-start-then-place-script : goal.slice_bounds-result-start-then-place-script
+slice_bounds-result-start-then-place-script c = omega (arith, (instruction (goal.at.slice_bounds-result-start-then-place-script c).After-instruction_bounds-from).forward)
 
-pub slice-bounds-result-end-then-place-script : goal.slice-bounds-result-end-then-place-script
-slice-bounds-result-end-then-place-script c = omega (arith, (instruction (goal.at.slice-bounds-result-end-then-place-script c).After-instruction-bounds-from).ends)
+pub slice_bounds-result-end-then-place-script : goal.slice_bounds-result-end-then-place-script
+slice_bounds-result-end-then-place-script c = omega (arith, (instruction (goal.at.slice_bounds-result-end-then-place-script c).After-instruction_bounds-from).ends)
 
 pub returns-then-place-script : goal.returns-then-place-script
 returns-then-place-script c =
-    let s = c.in-ok-script.script in
-    let it = instruction (goal.at.returns-then-place-script c).After-instruction-bounds-from in
+    let s = c.in_ok-script.script in
+    let it = instruction (goal.at.returns-then-place-script c).After-instruction_bounds-from in
     let count = channels_held s in
     let place : c.args.index - s.channel_count ≡ c.args.index - length (model_of s).channels = omega arith in
     let past : length (model_of s).channels ≤ c.args.index = omega (arith, c.if-index-script.false) in
     let below : c.args.index < length (model_of s).channels + length (model_of s).instructions = omega (arith, instructions_held s, c.if-place-script.true, c.if-index-script.false) in (
       s,
-      c.in-ok-script.ensures.reads,
+      c.in_ok-script.ensures.reads,
       (
         past,
         below,
-        c.instruction-bounds-from.ensures.from ∙ ap (instruction_start (model_of s)) place,
+        c.instruction_bounds-from.ensures.from ∙ ap (instruction_start (model_of s)) place,
         it.here ∙ ap (λ k. encode_instruction (get_or (model_of s).instructions k Skip)) place,
         cut_stands _ _ _ _ it,
       ),
@@ -62,5 +62,5 @@ returns-then-place-script c =
 
 pub returns : goal.returns
 returns c =
-    let s = c.in-ok-script.script in
-    (s, c.in-ok-script.ensures.reads, omega (arith, channels_held s, instructions_held s, c.if-place-script.false, c.if-index-script.false))
+    let s = c.in_ok-script.script in
+    (s, c.in_ok-script.ensures.reads, omega (arith, channels_held s, instructions_held s, c.if-place-script.false, c.if-index-script.false))

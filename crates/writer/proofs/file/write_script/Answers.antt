@@ -6,27 +6,27 @@ use Rattle.writer.proofs.Puts.{Sofar, sofar_more}
 use Rattle.writer.proofs.Stages.{pieces, sizes, from_front}
 use Rattle.writer.proofs.file.write_script.Goals as goal
 
-pub put-records-at-requires : goal.put-records-at-requires
-put-records-at-requires c =
+pub put_records-at-requires : goal.put_records-at-requires
+put_records-at-requires c =
     let s = c.args.script.now in
     let k = s.channel_count - 0 in
     let size = sizes s k s.instruction_count (omega arith) refl in
-    omega (arith, size, c.encoded-length.ensures, c.put-at.ensures.end)
+    omega (arith, size, c.encoded_length.ensures, c.put-at.ensures.end)
 
 pub put-at-requires-2 : goal.put-at-requires-2
 put-at-requires-2 c =
     let s = c.args.script.now in
     let k = s.channel_count - 0 in
     let size = sizes s k s.instruction_count (omega arith) refl in
-    omega (arith, size, c.encoded-length.ensures, c.put-at.ensures.end, c.put-records-at.ensures.end)
+    omega (arith, size, c.encoded_length.ensures, c.put-at.ensures.end, c.put_records-at.ensures.end)
 
-pub put-records-requires : goal.put-records-requires
-put-records-requires c =
+pub put_records-requires : goal.put_records-requires
+put_records-requires c =
     let s = c.args.script.now in
     let k = s.channel_count - 0 in
     let j = s.instruction_count - 0 in
     let size = sizes s k j (omega arith) (omega arith) in
-    omega (arith, size, c.encoded-length.ensures, c.put-at.ensures.end, c.put-records-at.ensures.end, c.put-at-2.ensures.end)
+    omega (arith, size, c.encoded_length.ensures, c.put-at.ensures.end, c.put_records-at.ensures.end, c.put-at-2.ensures.end)
 
 pub returns : goal.returns
 returns c =
@@ -37,12 +37,12 @@ returns c =
     let channels = flat_map encode_channel (take k s.channels) in
     let instructions = flat_map encode_instruction (take j s.instructions) in
     let head = s.levels ∷ s.channel_count ∷ [] in
-    let count : c.to-le-bytes.result ≡ bytes_of 2 s.instruction_count = search rules in
+    let count : c.to_le_bytes.result ≡ bytes_of 2 s.instruction_count = search rules in
     let none : 0 ≤ length old = omega arith in
     let one : Sofar 0 head old c.put-at.result c.put-at.new.out = (c.put-at.ensures.end, c.put-at.ensures.holds) in
-    let two = sofar_more 0 head old _ _ channels _ _ none one c.put-records-at.ensures.end c.put-records-at.ensures.holds in
-    let three = sofar_more 0 (head ++ channels) old _ _ c.to-le-bytes.result _ _ none two c.put-at-2.ensures.end c.put-at-2.ensures.holds in
-    let four = sofar_more 0 ((head ++ channels) ++ c.to-le-bytes.result) old _ _ instructions _ _ none three c.put-records.ensures.end c.put-records.ensures.holds in
-    let whole = pieces s k j (omega arith) (omega arith) c.to-le-bytes.result count in
-    let all : Sofar 0 (encode s) old c.put-records.result c.put-records.new.out = subst (λ l. Sofar 0 l old c.put-records.result c.put-records.new.out) whole four in
-    (omega (arith, all.0), omega (arith, c.encoded-length.ensures, c.if-out-encoded-length.false), all.1 ∙ from_front (encode s) old)
+    let two = sofar_more 0 head old _ _ channels _ _ none one c.put_records-at.ensures.end c.put_records-at.ensures.holds in
+    let three = sofar_more 0 (head ++ channels) old _ _ c.to_le_bytes.result _ _ none two c.put-at-2.ensures.end c.put-at-2.ensures.holds in
+    let four = sofar_more 0 ((head ++ channels) ++ c.to_le_bytes.result) old _ _ instructions _ _ none three c.put_records.ensures.end c.put_records.ensures.holds in
+    let whole = pieces s k j (omega arith) (omega arith) c.to_le_bytes.result count in
+    let all : Sofar 0 (encode s) old c.put_records.result c.put_records.new.out = subst (λ l. Sofar 0 l old c.put_records.result c.put_records.new.out) whole four in
+    (omega (arith, all.0), omega (arith, c.encoded_length.ensures, c.if-out-encoded_length.false), all.1 ∙ from_front (encode s) old)

@@ -5,5 +5,5 @@ use Rattle.class.proofs.compartments.Compartments.new.Goals as goal
 
 pub returns : goal.returns
 returns c =
-    let size = c.marks-for.ensures in
-    record { order = ap compartments size; meaning = subst (λ k. OwnTurns (2 ^ k) (compartments c.marks-for.result)) size (own_turns c.marks-for.result) }
+    let size = c.marks_for.ensures in
+    record { order = ap compartments size; meaning = subst (λ k. OwnTurns (2 ^ k) (compartments c.marks_for.result)) size (own_turns c.marks_for.result) }

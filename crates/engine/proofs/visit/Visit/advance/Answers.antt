@@ -16,15 +16,15 @@ returns-in-Some-step g c =
     let s : State = state_of channels v in
     let h : Frame = frame_of order channels c.step.new.self in
     let t : State = state_of channels c.step.new.self in
-    let n : State = state_of channels c.count-turn.new.self in
+    let n : State = state_of channels c.count_turn.new.self in
     let Did : Frame → State → Type 0 = λ a b. Does a b l (plan a b l) (Some c.in-Some-step.act) h t in
-    let did : Did f (counted s) = subst (Did f) c.count-turn.ensures.state (subst (λ (a : Frame). Did a n) c.count-turn.ensures.frame c.in-Some-step.ensures.does) in
+    let did : Did f (counted s) = subst (Did f) c.count_turn.ensures.state (subst (λ (a : Frame). Did a n) c.count_turn.ensures.frame c.in-Some-step.ensures.does) in
     let both = moved s l (plan f s l) c.in-Some-step.act t did.acts did.after in
     record {
       frame = did.frame;
       after = both.0 ∙ ap (λ (o : Option ℕ). (picked f s o).0) (sym c.in-Some.is);
       answer = both.1 ∙ ap (λ (o : Option ℕ). (picked f s o).1) (sym c.in-Some.is);
-      memory = subst (λ x. Memory g.H.Host.puts g.H.Host.takes x c.in-Some-step.act c.step.new.self.host) c.count-turn.ensures.host c.in-Some-step.ensures.memory;
+      memory = subst (λ x. Memory g.H.Host.puts g.H.Host.takes x c.in-Some-step.act c.step.new.self.host) c.count_turn.ensures.host c.in-Some-step.ensures.memory;
     }
 
 pub returns-in-None : goal.returns-in-None
@@ -37,13 +37,13 @@ returns-in-None g c =
     let s : State = state_of channels v in
     let h : Frame = frame_of order channels c.step.new.self in
     let t : State = state_of channels c.step.new.self in
-    let n : State = state_of channels c.count-turn.new.self in
+    let n : State = state_of channels c.count_turn.new.self in
     let Did : Frame → State → Type 0 = λ a b. Does a b l (plan a b l) None h t in
-    let did : Did f (counted s) = subst (Did f) c.count-turn.ensures.state (subst (λ (a : Frame). Did a n) c.count-turn.ensures.frame c.in-None.ensures.does) in
+    let did : Did f (counted s) = subst (Did f) c.count_turn.ensures.state (subst (λ (a : Frame). Did a n) c.count_turn.ensures.frame c.in-None.ensures.does) in
     let both = stayed s l (plan f s l) t did.acts did.after in
     record {
       frame = did.frame;
       after = both.0 ∙ ap (λ (o : Option ℕ). (picked f s o).0) (sym c.in-Some.is);
       answer = both.1 ∙ ap (λ (o : Option ℕ). (picked f s o).1) (sym c.in-Some.is);
-      memory = c.in-None.ensures.memory ∙ c.count-turn.ensures.host;
+      memory = c.in-None.ensures.memory ∙ c.count_turn.ensures.host;
     }

@@ -4,8 +4,8 @@ use Rattle.meaning.proofs.Listed.{nth_none}
 use Rattle.engine.proofs.visit.Visit.read.Goals as goal
 
 -- where the host is asked, the copy is at the end of a tape that is not full
-pub read-host-requires : goal.read-host-requires
-read-host-requires g c =
+pub read_host-requires : goal.read_host-requires
+read_host-requires g c =
     let at = c.in-Host.ensures.host refl in
     let tape = tapes_of c.args.self.now.tapes c.args.channel in
     let position = (copies_of c.args.self.now.copies c.args.level).positions c.args.channel in

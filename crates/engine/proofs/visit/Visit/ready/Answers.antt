@@ -6,7 +6,7 @@ use Rattle.regime.specs.declared.ready.ReadySet.{ReadySet}
 use Rattle.engine.specs.Views.{frame_of, state_of}
 use Rattle.engine.proofs.Gathered.{Below, with_it, without}
 use Rattle.engine.proofs.visit.Visit.ready.Goals as goal
-use Rattle.engine.proofs.visit.Visit.ready.Goals.{then-is-ready, else-is-ready}
+use Rattle.engine.proofs.visit.Visit.ready.Goals.{then-is_ready, else-is_ready}
 
 pub loop-level-preserved : goal.loop-level-preserved
 loop-level-preserved g c =
@@ -16,9 +16,9 @@ loop-level-preserved g c =
     let small : i < 16 = omega arith in
     let s = members c.loop-level.ready in
     let Again : ReadySet → Type 0 = λ r. Below f (i + 1) (members r) in
-    elim c.if-is-ready.branch [
-      | then-is-ready w ↦ subst Again (sym w.ready-is) (with_it f i s c.loop-level.invariant (sym c.is_ready.ensures ∙ w.if-is-ready.true) small _ w.insert.ensures)
-      | else-is-ready w ↦ subst Again (sym w.ready-is) (without f i s c.loop-level.invariant (sym c.is_ready.ensures ∙ w.if-is-ready.false))
+    elim c.if-is_ready.branch [
+      | then-is_ready w ↦ subst Again (sym w.ready-is) (with_it f i s c.loop-level.invariant (sym c.is_ready.ensures ∙ w.if-is_ready.true) small _ w.insert.ensures)
+      | else-is_ready w ↦ subst Again (sym w.ready-is) (without f i s c.loop-level.invariant (sym c.is_ready.ensures ∙ w.if-is_ready.false))
     ]
 
 pub returns : goal.returns

@@ -5,8 +5,8 @@ use Rattle.engine.proofs.Allowed.{steps_on, assigns, reads}
 use Rattle.engine.proofs.Unchanged.{paced_after}
 use Rattle.engine.proofs.visit.Visit.store.Goals as goal
 
-pub invariant-of-self : goal.invariant-of-self
-invariant-of-self g c =
+pub invariant_of-self : goal.invariant_of-self
+invariant_of-self g c =
     let v = c.args.self.now in
     let l = c.args.level in
     let few : steps_of v.copies l < 4294967295 = omega arith in

@@ -5,5 +5,5 @@ use Rattle.page.proofs.ladder.Ladder.new.Goals as goal
 
 pub returns : goal.returns
 returns c =
-    let size = c.rungs-for.ensures in
-    record { order = ap ladder size; meaning = subst (λ n. PicksLowest n (ladder c.rungs-for.result)) size (picks_lowest c.rungs-for.result) }
+    let size = c.rungs_for.ensures in
+    record { order = ap ladder size; meaning = subst (λ n. PicksLowest n (ladder c.rungs_for.result)) size (picks_lowest c.rungs_for.result) }

@@ -2,12 +2,12 @@ use Rattle.std.proofs.Common.{◌≡◌, ◌+◌, ◌-◌, ◌≤◌, length, sy
 use Rattle.record_writer.proofs.Appended.{appended, appended_length}
 use Rattle.record_writer.proofs.buffer.RecordBytes.append.Goals as goal
 
-pub invariant-of-self : goal.invariant-of-self
-invariant-of-self c =
+pub invariant_of-self : goal.invariant_of-self
+invariant_of-self c =
     let room : c.args.self.now.len + length c.args.more.now ≤ length c.args.self.now.bytes = omega arith in
-    (omega arith, (appended_length _ _ _ _ room c.copy-from-slice.ensures.after ∙ c.args.self.now.size, tt))
+    (omega arith, (appended_length _ _ _ _ room c.copy_from_slice.ensures.after ∙ c.args.self.now.size, tt))
 
 pub returns : goal.returns
 returns c =
     let room : c.args.self.now.len + length c.args.more.now ≤ length c.args.self.now.bytes = omega arith in
-    record { held = appended _ _ _ _ room c.copy-from-slice.ensures.after; len = refl }
+    record { held = appended _ _ _ _ room c.copy_from_slice.ensures.after; len = refl }

@@ -7,13 +7,13 @@ use Rattle.page.specs.Slots.{slots}
 use Rattle.page.proofs.Slotted.{shows, changes}
 use Rattle.page.proofs.slots.calls.SlotHostHost.take.Goals as goal
 
-pub returns-then-is-empty : goal.returns-then-is-empty
-returns-then-is-empty c =
+pub returns-then-is_empty : goal.returns-then-is_empty
+returns-then-is_empty c =
     let qs = c.args.self.now.queues in
     let i = c.args.channel in
     let inside : i < length qs = omega arith in
     let here = ap length (shows qs i _ inside c.index-self-channel.is) in
-    let nothing = c.is-empty.ensures.none c.if-is-empty.true in
+    let nothing = c.is_empty.ensures.none c.if-is_empty.true in
     let none : length ((slots qs).list i) ≡ 0 = omega arith in
     let empty = nil_from_length ((slots qs).list i) none in
     record { answer = sym (take_none (slots qs) i c.if-channel-ge16.false empty); after = sym (after_none (slots qs) i c.if-channel-ge16.false empty); memory = tt; refused = refl }
