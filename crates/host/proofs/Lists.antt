@@ -1,11 +1,8 @@
 -- Lists of records seen through a function of each, and one list among others. Assumes nothing.
-use Rattle.std.proofs.Common.{◌≡◌, ℕ, zero, suc, ◌+◌, ◌-◌, ◌<◌, ◌≤◌, Bool, true, false, cond, eqb, ltb, ◌≢◌, ◌⊎◌, List, [], ◌∷◌, ◌++◌, map, length, get_or, take, drop, set, ℤ, pos, Ok, Err, Result, sym, refl, ap, ◌∙◌, inl, inr, arith, get_or-set_other, get_or-set_same}
+use Rattle.std.proofs.Common.{◌≡◌, ℕ, zero, suc, ◌<◌, true, false, cond, eqb, ◌⊎◌, List, [], ◌∷◌, map, length, get_or, set, sym, refl, ap, ◌∙◌, inl, inr, arith}
 use mathlib.Core.Path.{fun_ext}
-use lib.ListN.{length-map, get_or-map}
-use lib.Seq.{map-set, take-append-le}
 use Rattle.std.proofs.lemmas.Bool.Decides.{nat_tests, eqb_tells}
-use Rattle.refusal.specs.declared.Refusal.{Refusal}
-use Rattle.host.specs.Channels.{Channels, with_list, on_ok, oldest, rest}
+use Rattle.host.specs.Channels.{Channels, with_list}
 
 module _ {A B : Type 0} (f : A → B) where
   -- what stands at `i`, seen through `f`, whatever the default

@@ -1,8 +1,8 @@
 -- What the calls of a host answer and leave, case by case. Assumes nothing.
-use Rattle.std.proofs.Common.{◌≡◌, ℕ, ◌-◌, ◌<◌, ◌≤◌, true, false, cond, ltb, List, [], ◌∷◌, ◌++◌, length, ℤ, Ok, Err, Result, sym, refl, ap, ◌∙◌, subst, arith}
+use Rattle.std.proofs.Common.{◌≡◌, ℕ, ◌-◌, ◌<◌, ◌≤◌, List, [], ◌∷◌, ◌++◌, length, ℤ, Ok, Err, Result, sym, refl, ap, ◌∙◌, subst, arith}
 use Rattle.std.proofs.lemmas.Bool.{lt-ltb, le-ltb, cond-true, cond-false}
 use Rattle.refusal.specs.declared.Refusal.{Refusal}
-use Rattle.refusal.specs.declared.Refusal.TheVariants.{Channel, Full, Empty}
+use Rattle.refusal.specs.declared.Refusal.TheVariants.{Full, Empty}
 use Rattle.host.specs.Channels.{Channels, with_list, on_ok, of_channel, stored, lacking, push_answer, oldest, rest, put_answer, after_put, take_answer, after_take, if_accepted, if_refused}
 
 -- a call on a channel that there is

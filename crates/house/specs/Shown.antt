@@ -6,14 +6,14 @@ use Rattle.std.proofs.Math.Bridge.{le_prop}
 use denote.Struct.Props.{props, three_prop}
 use Rattle.std.proofs.lemmas.List.{get_or_past}
 use Rattle.std.proofs.lemmas.Bool.{cases_lt}
-use Rattle.regime.specs.Order.{Partial, partial-prop, Lawful}
+use Rattle.regime.specs.Order.{Partial, partial_prop, Lawful}
 use Rattle.regime.proofs.Turns.{own_turn_lawful}
 use Rattle.class.specs.Marks.{no_bit}
 use Rattle.house.specs.Rows.{told, mapped, Accepted, Clear, Itself, OneWay, Onward}
 
 -- that flow is an order can be shown in one way only
 ordered_prop : (n : ℕ) (flows : ℕ → ℕ → Bool) → IsProp (Partial n flows)
-ordered_prop n flows = partial-prop (hlevel props) (hlevel props) (hlevel props) (hlevel props)
+ordered_prop n flows = partial_prop (hlevel props) (hlevel props) (hlevel props) (hlevel props)
 
 -- what an order map's ghost field holds
 pub accepted : (n : ℕ) (rows : List ℕ) → ∥ Accepted n rows ∥₁ → Accepted n rows

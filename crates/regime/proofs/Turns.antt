@@ -1,7 +1,7 @@
 -- Regimes where each level has its own turn. Assumes nothing.
-use Rattle.std.proofs.Common.{◌≡◌, ℕ, ◌<◌, ◌≤◌, Bool, arith}
+use Rattle.std.proofs.Common.{ℕ, ◌≤◌, Bool, arith}
 use Rattle.std.proofs.lemmas.Bool.Decides.{nat_tests}
-use Rattle.regime.specs.Order.{Order, Partial, Lawful, own_turn}
+use Rattle.regime.specs.Order.{Partial, Lawful, own_turn}
 
 -- where the level numbered as the place is picked, any order of the levels is lawful
 pub own_turn_lawful : (n : ℕ) (flows : ℕ → ℕ → Bool) → 1 ≤ n → n ≤ 16 → Partial n flows → Lawful (record { size = n; flows = flows; picks = own_turn n })

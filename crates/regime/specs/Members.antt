@@ -1,5 +1,5 @@
 -- Sets of levels. Assumes nothing.
-use Rattle.std.specs.Prelude.{ℕ, Bool, false, slice_index_or}
+use Rattle.std.specs.Prelude.{false, slice_index_or}
 use Rattle.regime.specs.declared.ready.ReadySet.{ReadySet}
 use Rattle.regime.specs.Order.{Levels}
 

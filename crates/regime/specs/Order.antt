@@ -21,7 +21,7 @@ pub record Partial (n : ℕ) (flows : ℕ → ℕ → Bool) : Type 0 where
   pub one_way : (a b : ℕ) → flows a b ≡ true → flows b a ≡ true → a ≡ b
   -- what flows on has flowed
   pub onward : (a b c : ℕ) → flows a b ≡ true → flows b c ≡ true → flows a c ≡ true
-  deriving IsProp as partial-prop
+  deriving IsProp as partial_prop
 
 -- the laws
 pub record Lawful (r : Order) : Type 0 where
