@@ -1,4 +1,4 @@
-use Rattle.std.proofs.Common.{◌≡◌, ◌+◌, ◌-◌, min, length, take, sym, refl, ap, ◌∙◌, arith, length-take}
+use Rattle.std.proofs.Common.{◌≡◌, ◌+◌, ◌-◌, min, length, ap, ◌∙◌, arith, length-take}
 use Rattle.std.specs.List.{flat_map}
 use Rattle.format.specs.Encoding.{encode_channel}
 use Rattle.record_writer.proofs.Lengths.{used}
@@ -11,6 +11,6 @@ returns c =
     let count : k ≡ min c.args.index s.channel_count = omega (arith, c.capped-count.ensures) in
     let front = used c.args.index s.channel_count k s.channels count in
     record {
-      few = omega (arith, c.records-length.ensures.few, length-take k s.channels, s.tables.0);
-      is = ap (λ n. 2 + n) (c.records-length.ensures.is ∙ ap (λ l. length (flat_map encode_channel l)) front);
+      few = omega (arith, c.records_length.ensures.few, length-take k s.channels, s.tables.0);
+      is = ap (λ n. 2 + n) (c.records_length.ensures.is ∙ ap (λ l. length (flat_map encode_channel l)) front);
     }

@@ -1,4 +1,4 @@
-use Rattle.std.proofs.Common.{◌≡◌, ◌<◌, length, get_or, sym, refl, ap, ◌∙◌, arith}
+use Rattle.std.proofs.Common.{◌≡◌, length, get_or, ap, ◌∙◌, arith}
 use Rattle.std.proofs.lemmas.List.{take_all}
 use Rattle.std.specs.List.{flat_map}
 use Rattle.record_writer.proofs.Lengths.{longer}
@@ -9,7 +9,7 @@ loop-record-preserved g c =
     let enc = g.R.FileRecord.encoded in
     let item = c.record-item.result in
     let more = longer enc c.args.records.now c.loop-record.record-index item c.loop-record-test.true in
-    let size : c.len-total.result ≡ length (enc (get_or c.args.records.now c.loop-record.record-index item)) = c.len-total.ensures.is ∙ ap length c.to-bytes.ensures ∙ ap (λ x. length (enc x)) c.record-item.is in
+    let size : c.len-total.result ≡ length (enc (get_or c.args.records.now c.loop-record.record-index item)) = c.len-total.ensures.is ∙ ap length c.to_bytes.ensures ∙ ap (λ x. length (enc x)) c.record-item.is in
     (omega (arith, c.loop-record.invariant.0, c.len-total.ensures.few), omega (arith, c.loop-record.invariant.1, more, size))
 
 pub returns : goal.returns
