@@ -1,9 +1,9 @@
 -- The channels of the lanes. Assumes nothing.
-use Rattle.std.proofs.Common.{◌≡◌, ℕ, zero, suc, ◌+◌, ◌<◌, false, cond, eqb, List, [], ◌∷◌, ◌++◌, map, length, get_or, set, ℤ, sym, refl, ap, ◌∙◌, arith}
+use Rattle.std.proofs.Common.{◌≡◌, ℕ, zero, suc, ◌<◌, false, cond, eqb, List, [], ◌∷◌, ◌++◌, map, length, get_or, set, ℤ, sym, refl, ap, ◌∙◌, arith}
 use mathlib.Core.Path.{fun_ext}
 use Rattle.std.proofs.lemmas.List.{length-append, length-set}
 use Rattle.std.proofs.lemmas.Bool.Decides.{nat_tests}
-use Rattle.host.specs.Channels.{Channels, with_list}
+use Rattle.host.specs.Channels.{with_list}
 use Rattle.host.proofs.Lists.{at_is, at_set, stays}
 use Rattle.own_host.specs.declared.lanes.Lane.{Lane}
 use Rattle.own_host.specs.Added.{added}

@@ -1,10 +1,10 @@
 -- The host is lawful, by the laws of each lane. Assumes nothing.
-use Rattle.std.specs.Prelude.{ℕ, zero, suc, ◌<◌, ◌≤◌, List, [], ◌∷◌, map, length, vec_items, slice_index_or}
+use Rattle.std.specs.Prelude.{ℕ, zero, suc, ◌≤◌, List, [], ◌∷◌, map, vec_items, slice_index_or}
 use Rattle.std.proofs.Common.{arith}
-use Rattle.host.specs.Channels.{Channels, Lawful}
+use Rattle.host.specs.Channels.{Lawful}
 use Rattle.own_host.specs.declared.lanes.Lane.{Lane}
 use Rattle.own_host.specs.declared.lanes.HeapHost.{HeapHost}
-use Rattle.own_host.specs.Lanes.{lanes, room, channels_of}
+use Rattle.own_host.specs.Lanes.{room, channels_of}
 
 -- every capacity is at least 1
 pub at_least : (ls : List Lane) (c : ℕ) → 1 ≤ slice_index_or (map room ls) c 1

@@ -1,5 +1,5 @@
 -- The laws of the strip. Assumes nothing.
-use Rattle.std.proofs.Common.{◌≡◌, ℕ, zero, suc, ◌+◌, ◌-◌, ◌*◌, ◌/◌, ◌<◌, ◌≤◌, min, true, false, cond, eqb, List, [], ◌∷◌, ◌++◌, length, take, drop, refl, ap, ◌∙◌, le-div_iff_mul-le, arith, length-append}
+use Rattle.std.proofs.Common.{◌≡◌, ℕ, zero, suc, ◌-◌, ◌/◌, ◌≤◌, min, true, false, cond, eqb, List, [], ◌∷◌, ◌++◌, length, take, drop, refl, ap, ◌∙◌, le-div_iff_mul-le, arith, length-append}
 use native.Mathlib.Nat.{mul-div-le, lt-mul-div-succ}
 use lib.Seq.{take-append_seam}
 use Rattle.std.proofs.lemmas.List.{take_more_set}

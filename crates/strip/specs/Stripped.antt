@@ -1,5 +1,5 @@
 -- What a strip host means, and what calls make of the entries that it was lent. Assumes nothing.
-use Rattle.std.specs.Prelude.{◌≡◌, ℕ, ◌+◌, ◌-◌, ◌<◌, ◌≤◌, List, [], take, ℤ}
+use Rattle.std.specs.Prelude.{◌≡◌, ℕ, ◌+◌, ◌-◌, List, [], take, ℤ}
 use Rattle.std.proofs.Common.{arith}
 use Rattle.host.specs.Channels.{Channels, Lawful}
 use Rattle.strip.specs.Entries.{listed, entries_put, entries_taken}

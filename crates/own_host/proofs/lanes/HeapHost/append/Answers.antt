@@ -7,6 +7,6 @@ use Rattle.own_host.proofs.lanes.HeapHost.append.Goals as goal
 
 pub returns : goal.returns
 returns c =
-    let done : is_ok c.push.result ≡ true = c.if-is-err.ensures.negation in
+    let done : is_ok c.push.result ≡ true = c.if-is_err.ensures.negation in
     let longer = c.push.ensures.items ∙ cond-true _ _ _ done in
     record { after = ap lanes longer ∙ grows (vec_items c.args.self.now.lanes) c.args.lane; why = (omega arith, (omega arith, omega arith)) }

@@ -1,8 +1,8 @@
 -- An entry is left, and one more in use keeps the counts right. Assumes nothing.
-use Rattle.std.proofs.Common.{◌≡◌, ◌+◌, ◌<◌, [], ◌∷◌, ◌++◌, length, get_or, take, set, sym, refl, ap, ◌∙◌, arith, length-set, to_z-of_z, w32, to_z, of_z}
+use Rattle.std.proofs.Common.{◌≡◌, ◌+◌, ◌<◌, [], ◌∷◌, ◌++◌, length, get_or, take, refl, ap, ◌∙◌, arith, length-set, to_z-of_z, w32, to_z, of_z}
 use Rattle.std.proofs.lemmas.List.{take_more_set}
-use Rattle.strip.specs.Entries.{listed, known, entries_put}
-use Rattle.strip.specs.Stripped.{channels_of, in_use, lent}
+use Rattle.strip.specs.Entries.{known, entries_put}
+use Rattle.strip.specs.Stripped.{in_use, lent}
 use Rattle.strip.specs.declared.entry.Entry.{Entry}
 use Rattle.strip.proofs.Counting.{known_push}
 use Rattle.strip.proofs.Tied.{tied_put, bounded_set, room_left, grows}
@@ -11,8 +11,8 @@ use Rattle.strip.proofs.strips.StripHost.push.Goals as goal
 pub store-requires : goal.store-requires
 store-requires c = room_left c.args.self.now c.args.channel c.requires.0 c.requires.1
 
-pub invariant-of-self : goal.invariant-of-self
-invariant-of-self c =
+pub invariant_of-self : goal.invariant_of-self
+invariant_of-self c =
     let s = c.args.self.now in
     let ch = c.args.channel in
     let e : Entry = record { channel = ch; value = to_z w32 (of_z w32 c.args.value) } in
@@ -21,28 +21,17 @@ invariant-of-self c =
     let held = s.tied ch in
     let i : ch < length s.counts = omega arith in
     let placed : take (s.len + 1) c.store.new.entries ≡ in_use s ++ (e ∷ []) = ap (take (s.len + 1)) c.store.ensures ∙ take_more_set (lent s) s.len e left in
-    let size : length c.store.new.entries ≡ length (lent s) = ap length c.store.ensures ∙ length-set (lent s) s.len e in (
-      s.few,
-      (
-        s.slim,
-        (
-          s.roomy,
-          (
-            omega arith,
-            (
-              omega arith,
-              (
-                ap (known s.count) placed ∙ known_push s.count (in_use s) e s.numbered c.requires.0,
-                (
-                  (λ d. rw (placed, c.one-more.ensures) (tied_put s.counts (in_use s) s.tied e i d)),
-                  ((λ d. rw c.one-more.ensures (bounded_set s.counts ch (get_or s.counts ch 0 + 1) s.capacity i s.bounded (omega arith) d)), tt),
-                ),
-              ),
-            ),
-          ),
-        ),
-      ),
-    )
+    let size : length c.store.new.entries ≡ length (lent s) = ap length c.store.ensures ∙ length-set (lent s) s.len e in
+    record {
+      few = s.few;
+      slim = s.slim;
+      roomy = s.roomy;
+      enough = omega arith;
+      within = omega arith;
+      numbered = ap (known s.count) placed ∙ known_push s.count (in_use s) e s.numbered c.requires.0;
+      tied = λ d. rw (placed, c.one_more.ensures) (tied_put s.counts (in_use s) s.tied e i d);
+      bounded = λ d. rw c.one_more.ensures (bounded_set s.counts ch (get_or s.counts ch 0 + 1) s.capacity i s.bounded (omega arith) d);
+    }
 
 pub returns : goal.returns
 returns c =

@@ -1,5 +1,5 @@
 -- The lane's length is the channel's. Assumes nothing.
-use Rattle.std.proofs.Common.{◌≡◌, ℕ, ◌<◌, length, vec_items, ap, ◌∙◌, arith}
+use Rattle.std.proofs.Common.{◌<◌, length, vec_items, ap, ◌∙◌, arith}
 use Rattle.host.proofs.Shown.{held_is}
 use Rattle.own_host.specs.Lanes.{lanes}
 use Rattle.own_host.proofs.Laned.{holds}
