@@ -1,10 +1,9 @@
 -- The file's parts in order. Assumes nothing.
-use Rattle.std.proofs.Common.{◌≡◌, ℕ, ◌-◌, ◌≤◌, true, false, eqb, List, [], ◌∷◌, length, take, Ok, Err, Result, sym, refl, ap, ◌∙◌, subst, arith}
+use Rattle.std.proofs.Common.{◌≡◌, ℕ, ◌-◌, ◌≤◌, true, false, eqb, List, [], ◌∷◌, length, take, Ok, Err, Result, refl, ap, ◌∙◌, subst, arith}
 use Rattle.std.proofs.lemmas.Bool.{eqb-true, eqb-false}
 use Rattle.script.specs.declared.parts.Channel.{Channel}
 use Rattle.script.specs.declared.parts.Instruction.{Instruction}
 use Rattle.script.specs.Laws.{Headed, Counted, Below, Sound}
-use Rattle.script.specs.Model.{Model}
 use Rattle.script.specs.declared.accepted.Script.{Script}
 use Rattle.script.proofs.Held.{below_table, all_sound_table}
 use Rattle.std.proofs.lemmas.List.{length-take-le}

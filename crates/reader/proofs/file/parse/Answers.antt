@@ -1,7 +1,7 @@
-use Rattle.std.proofs.Common.{◌≡◌, ◌<◌, ◌≤◌, length, take, Ok, Err, sym, refl, ◌∙◌, arith, rules}
+use Rattle.std.proofs.Common.{◌≡◌, ◌<◌, ◌≤◌, length, take, Ok, sym, ◌∙◌, arith}
 use Rattle.std.proofs.ByRecursion.{All-from_get_or}
 use Rattle.std.proofs.lemmas.Result.{err_from_is_err_and}
-use Rattle.format.specs.Reading.{read_instructions, read_file}
+use Rattle.format.specs.Reading.{read_instructions}
 use Rattle.reader.proofs.Whole.{Ahead, ahead, passed, stops, goes_on, nothing_left, more_left, lawful}
 use Rattle.reader.proofs.file.parse.Goals as goal
 use Rattle.reader.proofs.file.parse.Goals.{In_ok-instruction_count, In_ok-instructions}
@@ -28,12 +28,12 @@ pub invariant_of-result : goal.invariant_of-result
 invariant_of-result c =
     let channels = c.in_ok-channels.ensures.fills in
     let instructions = c.in_ok-instructions.ensures.fills in
-    let bytes = All-from_get_or (λ b. b < 256) c.args.bytes.now 0 (λ i _. (c.type-inv.bytes i).fits) in
+    let bytes = All-from_get_or (λ b. b < 256) c.args.bytes.now 0 (λ i _. (c.type_inv.bytes i).fits) in
     let whole = goes_on (before (goal.at.invariant_of-result c).In_ok-instruction_count) _ _ (all_read (goal.at.invariant_of-result c).In_ok-instructions) ∙ nothing_left _ _ _ (sym c.if-not-is_empty.ensures) in
     let few : c.in_ok-c.c ≤ length c.in_ok-channels.channels = omega (arith, channels.size, c.in_ok-c.ensures.bounds.1) in
     let long : c.in_ok-instruction_count.instruction_count ≤ length c.in_ok-instructions.instructions = omega (arith, instructions.size, c.in_ok-instruction_count.ensures.bounds.1) in
     let l = lawful c.args.bytes.now c.in_ok-levels.levels c.in_ok-c.c c.in_ok-channels.channels c.in_ok-instruction_count.instruction_count c.in_ok-instructions.instructions bytes few long whole in
-    (l.headed, (l.counted, (l.below, (l.sound, ((channels.size, instructions.size), (channels.unused, (instructions.unused, tt)))))))
+    record { headed = l.headed; counted = l.counted; below = l.below; sound = l.sound; tables = (channels.size, instructions.size); unused_channels = channels.unused; unused_instructions = instructions.unused }
 
 pub returns : goal.returns
 returns c =

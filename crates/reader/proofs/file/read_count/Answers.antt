@@ -1,4 +1,4 @@
-use Rattle.std.proofs.Common.{◌≡◌, ◌≤◌, true, ◌&&◌, leb, length, sym, ◌∙◌, rules}
+use Rattle.std.proofs.Common.{◌≡◌, ◌≤◌, true, ◌&&◌, leb, length, sym, rules}
 use Rattle.reader.proofs.Heads.{between, count_is}
 use Rattle.reader.proofs.file.read_count.Goals as goal
 

@@ -1,4 +1,4 @@
-use Rattle.std.proofs.Common.{◌≡◌, ◌≤◌, true, ◌&&◌, leb, length, get_or, sym, ◌∙◌, rules}
+use Rattle.std.proofs.Common.{◌≡◌, ◌≤◌, true, ◌&&◌, leb, length, get_or, sym, rules}
 use Rattle.reader.proofs.Heads.{between, head_is}
 use Rattle.reader.proofs.file.read_head.Goals as goal
 

@@ -6,6 +6,6 @@ use Rattle.reader.proofs.file.read_script.Goals as goal
 
 pub returns : goal.returns
 returns c =
-    let bytes = All-from_get_or (λ b. b < 256) c.args.bytes.now 0 (λ i _. (c.type-inv.bytes i).fits) in
+    let bytes = All-from_get_or (λ b. b < 256) c.args.bytes.now 0 (λ i _. (c.type_inv.bytes i).fits) in
     let told = reads c.args.bytes.now c.parse.result bytes c.parse.ensures in
     record { reads = told; back = read_back c.args.bytes.now c.parse.result told }

@@ -26,4 +26,4 @@ returns c =
     let here = shows qs i _ inside c.index-self-channel-2.is in
     let first : oldest ((slots qs).list i) ≡ Ok c.pop.result = ap oldest (sym here) ∙ c.pop.ensures.answer in
     let shorter = c.pop.ensures.after ∙ ap rest here in
-    record { answer = ap Ok (to_z-of_z {w = w32} (record { sfits = c.pop.type-inv })) ∙ sym (take_some (slots qs) i _ c.if-channel-ge16.false first); after = changes qs i _ _ inside shorter ∙ sym (after_some (slots qs) i _ c.if-channel-ge16.false first); memory = tt; refused = tt }
+    record { answer = ap Ok (to_z-of_z {w = w32} (record { sfits = c.pop.type_inv })) ∙ sym (take_some (slots qs) i _ c.if-channel-ge16.false first); after = changes qs i _ _ inside shorter ∙ sym (after_some (slots qs) i _ c.if-channel-ge16.false first); memory = tt; refused = tt }
