@@ -1,5 +1,5 @@
 -- The file of a script piece by piece. Assumes nothing.
-use Rattle.std.proofs.Common.{◌≡◌, ℕ, ◌+◌, ◌≤◌, List, [], ◌∷◌, ◌++◌, length, take, drop, sym, refl, ap, ◌∙◌, append_assoc, zero-add, arith, length-append}
+use Rattle.std.proofs.Common.{◌≡◌, ℕ, ◌+◌, List, [], ◌∷◌, ◌++◌, length, take, drop, sym, refl, ap, ◌∙◌, append_assoc, zero-add, arith, length-append}
 use Rattle.std.specs.List.{flat_map}
 use Rattle.script.specs.declared.accepted.Script.{Script}
 use Rattle.script.specs.Model.{model_of}

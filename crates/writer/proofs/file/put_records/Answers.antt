@@ -1,4 +1,4 @@
-use Rattle.std.proofs.Common.{◌≡◌, ℕ, ◌+◌, ◌≤◌, List, length, sym, refl, ap, ◌∙◌, subst, arith}
+use Rattle.std.proofs.Common.{ℕ, ◌+◌, ◌≤◌, List, length, sym, ap, ◌∙◌, arith}
 use Rattle.writer.specs.Written.{written}
 use Rattle.writer.proofs.Puts.{written_none, room, one_more, all_written}
 use Rattle.writer.proofs.file.put_records.Goals as goal
