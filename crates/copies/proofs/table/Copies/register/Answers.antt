@@ -1,4 +1,4 @@
-use Rattle.std.proofs.Common.{◌≡◌, ◌<◌, ◌≤◌, length, get_or, sym, ap, ◌∙◌, to_z-of_z, w32, rules}
+use Rattle.std.proofs.Common.{◌≡◌, ◌<◌, ◌≤◌, length, get_or, sym, ap, ◌∙◌, to_z-of_z, w32}
 use Rattle.host.proofs.Lists.{at_is}
 use Rattle.meaning.specs.Copies.{Copy, first}
 use Rattle.copies.specs.Held.{copy_of}
@@ -12,7 +12,7 @@ returns-in-Some c =
     let found = c.in-Some.ensures.lookup in
     let here : c.in-Some.copy.now ≡ get_or rs l c.in-Some.copy.now = found.1 in
     let inside : l < length rs = found.3.0 in
-    to_z-of_z {w = w32} (record { sfits = c.register.type-inv }) ∙ c.register.ensures ∙ sym (ap (λ (x : Copy). x.registers c.args.index) (at_is copy_of rs l _ first inside here))
+    to_z-of_z {w = w32} (record { sfits = c.register.type_inv }) ∙ c.register.ensures ∙ sym (ap (λ (x : Copy). x.registers c.args.index) (at_is copy_of rs l _ first inside here))
 
 pub returns-in-None : goal.returns-in-None
 returns-in-None c =
