@@ -1,5 +1,5 @@
 -- The quotient of two values that the machine divides. Assumes nothing.
-use Rattle.std.proofs.Common.{◌≡◌, ℕ, Bool, true, false, cond, eqb, ℤ, pos, negsuc, sym, refl, ap, ◌∙◌, ap₂, arith, to_z-of_z, w32, SFits, to_z, of_z}
+use Rattle.std.proofs.Common.{◌≡◌, Bool, false, cond, ℤ, pos, negsuc, sym, refl, ap, ◌∙◌, ap₂, to_z-of_z, w32, SFits, to_z, of_z}
 use lib.Signed.{quot_z}
 use Rattle.std.proofs.lemmas.Bool.{ne_eqb}
 use Rattle.script.specs.declared.parts.Operation.TheVariants.{Quotient}

@@ -14,7 +14,7 @@ use Rattle.meaning.specs.Copies.{Copy, nth}
 use Rattle.meaning.specs.Logs.{log, reached, is_move, is_accepted, is_turn, count_if, accepted_turns, some_move}
 use Rattle.meaning.specs.Programs.{Sound, instruction_at}
 use Rattle.meaning.specs.Promises.{Progress}
-use Rattle.meaning.specs.Visits.{Opening, Frame, framed, State, Plan, go, ended, got, read_plan, write_plan, plan_do, plan, status, is_ready, choice, ready, Reply, put_on, take_off, with_lists, counted, level_of, outward, has_space, same_levels, enough_channels, admit, respond}
+use Rattle.meaning.specs.Visits.{Opening, Frame, framed, State, Plan, ended, got, read_plan, write_plan, plan_do, status, is_ready, choice, ready, Reply, put_on, take_off, with_lists, counted, level_of, outward, has_space, same_levels, enough_channels, admit, respond}
 use Rattle.meaning.proofs.Fitting.{Fits, fits_at}
 use Rattle.meaning.proofs.Outcomes.{goes, Outcome, refuses, feeds, collects, idles, goes_on, tells, outcome}
 use Rattle.meaning.proofs.Turning.{chosen_ready}

@@ -1,5 +1,5 @@
 -- Every in gives what one of the rules says, and what the rules say is one thing. Assumes nothing.
-use Rattle.std.proofs.Common.{◌≡◌, ℕ, ◌<◌, ◌≤◌, Bool, true, false, eqb, ltb, List, [], ◌∷◌, length, ℤ, pos, Some, None, Option, refl, ap, subst}
+use Rattle.std.proofs.Common.{◌≡◌, ℕ, ◌<◌, ◌≤◌, Bool, true, false, eqb, ltb, length, ℤ, pos, Some, None, Option, refl, ap, subst}
 use Rattle.std.proofs.lemmas.Bool.{ltb-true, ltb-false, lt-ltb, le-ltb, eqb-true, eq-eqb}
 use Rattle.meaning.specs.Copies.{Copy, nth}
 use Rattle.meaning.specs.Visits.{Frame, State, level_of, Got, again, got, gets}

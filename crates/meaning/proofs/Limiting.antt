@@ -1,5 +1,5 @@
 -- What no log exceeds, and what a tape holds. Assumes nothing.
-use Rattle.std.proofs.Common.{◌≡◌, ℕ, suc, ◌+◌, ◌<◌, ◌≤◌, Bool, true, false, cond, eqb, List, [], ◌∷◌, ◌++◌, length, ℤ, sym, ap, ◌∙◌, subst, append_assoc, append-nil, arith, length-append}
+use Rattle.std.proofs.Common.{◌≡◌, ℕ, suc, ◌<◌, ◌≤◌, Bool, true, false, cond, eqb, List, [], ◌∷◌, ◌++◌, length, ℤ, sym, ap, ◌∙◌, subst, append_assoc, append-nil, arith, length-append}
 use Rattle.meaning.specs.Answers.{Call}
 use Rattle.meaning.specs.Copies.{Copy}
 use Rattle.meaning.specs.Logs.{after, log, takes, by_move, taken_by_copies}

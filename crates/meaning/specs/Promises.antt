@@ -1,16 +1,16 @@
 -- What is promised of every visit: of every script, every regime that keeps the laws, every host, and every log of
 -- calls. Assumes nothing.
-use Rattle.std.specs.Prelude.{◌≡◌, ℕ, ◌+◌, ◌<◌, ◌≤◌, Bool, true, false, ◌⊎◌, List, [], ◌∷◌, ◌++◌, map, length, ℤ, pos, Some, None, ◌≢◌}
+use Rattle.std.specs.Prelude.{◌≡◌, ℕ, ◌<◌, ◌≤◌, true, false, ◌⊎◌, List, [], ◌∷◌, ◌++◌, map, length, pos, None, ◌≢◌}
 use Rattle.refusal.specs.declared.Refusal.{Refusal}
 use Rattle.refusal.specs.declared.Refusal.TheVariants.{Levels, Channels, Spent}
 use Rattle.regime.specs.Order as regime
 use Rattle.regime.specs.Order.{Order, Lawful}
-use Rattle.meaning.specs.Answers.{Call, feed, collect, turn, ask, Answer, refused, turned, told, in_numbers}
+use Rattle.meaning.specs.Answers.{Call, turn, ask, Answer, refused, turned, told, in_numbers}
 use Rattle.meaning.specs.Copies.{Plain, plain_run}
-use Rattle.meaning.specs.Logs.{Log, after, log, reached, logged, accepted, taken, moves_of, accepted_turns, some_move, written_by, taken_by_copies, kept, seen}
+use Rattle.meaning.specs.Logs.{log, reached, logged, accepted, taken, moves_of, accepted_turns, some_move, written_by, taken_by_copies, kept, seen}
 use Rattle.meaning.specs.Numbers.{status_number, channel_lacked}
-use Rattle.meaning.specs.Programs.{Program, Sound, level_at}
-use Rattle.meaning.specs.Visits.{Opening, Frame, framed, State, opened, ready, choice, level_of, known, same_levels, enough_channels, respond}
+use Rattle.meaning.specs.Programs.{Sound, level_at}
+use Rattle.meaning.specs.Visits.{Opening, Frame, framed, State, ready, choice, level_of, same_levels, enough_channels, respond}
 use Rattle.meaning.specs.declared.answers.Act.{Act}
 use Rattle.meaning.specs.declared.answers.Act.TheVariants.{Inner, Took, Reused, Defaulted, Wrote, Withheld}
 use Rattle.meaning.specs.declared.answers.Turned.TheVariants.{Nobody, Moved}

@@ -1,6 +1,5 @@
 -- What a visit is made of, and how it answers a call. Assumes nothing.
 use Rattle.std.specs.Prelude.{ℕ, suc, ◌%◌, Bool, true, false, cond, ◌&&◌, List, [], ◌∷◌, ◌++◌, length, ℤ, pos, Some, None, Option, ◌==◌, nat_le, nat_lt}
-use Rattle.refusal.specs.declared.Refusal.{Refusal}
 use Rattle.refusal.specs.declared.Refusal.TheVariants.{Levels, Channels, Channel, Direction, Level, Full, Empty, Spent}
 use Rattle.host.specs.Channels.{rest}
 use Rattle.host.specs.Channels as host

@@ -1,4 +1,4 @@
-use Rattle.std.proofs.Common.{◌≡◌, ◌<◌, length, refl, ap, ◌∙◌, arith}
+use Rattle.std.proofs.Common.{◌<◌, length, refl, ap, ◌∙◌, arith}
 use Rattle.meaning.specs.Copies.{Copy, first, go_to}
 use Rattle.copies.specs.Held.{copy_of}
 use Rattle.copies.proofs.Rows.{read_as, changes}

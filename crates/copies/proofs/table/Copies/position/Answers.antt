@@ -1,4 +1,4 @@
-use Rattle.std.proofs.Common.{◌≡◌, ◌<◌, ◌≤◌, length, get_or, sym, ap, ◌∙◌, rules}
+use Rattle.std.proofs.Common.{◌≡◌, ◌<◌, ◌≤◌, length, get_or, sym, ap, ◌∙◌}
 use Rattle.host.proofs.Lists.{at_is}
 use Rattle.meaning.specs.Copies.{Copy, first}
 use Rattle.copies.specs.Held.{copy_of}

@@ -1,5 +1,5 @@
-use Rattle.std.proofs.Common.{◌≡◌, ◌<◌, length, ℤ, sym, refl, ap, ◌∙◌, subst, arith, to_z-of_z}
-use Rattle.meaning.specs.Copies.{Copy, first, assign, further}
+use Rattle.std.proofs.Common.{◌<◌, length, sym, refl, ap, ◌∙◌, subst, arith, to_z-of_z}
+use Rattle.meaning.specs.Copies.{Copy, first, assign}
 use Rattle.copies.specs.Held.{copy_of}
 use Rattle.copies.proofs.Rows.{read_as, changes}
 use Rattle.copies.proofs.table.Copies.store.Goals as goal

@@ -1,4 +1,4 @@
-use Rattle.std.proofs.Common.{◌≡◌, ◌<◌, length, ℤ, sym, refl, ap, ◌∙◌, subst, arith, to_z-of_z}
+use Rattle.std.proofs.Common.{◌<◌, length, sym, refl, ap, ◌∙◌, subst, arith, to_z-of_z}
 use Rattle.meaning.specs.Copies.{Copy, first, assign, further}
 use Rattle.copies.specs.Held.{copy_of}
 use Rattle.copies.proofs.Rows.{read_as, changes}

@@ -1,4 +1,4 @@
-use Rattle.std.proofs.Common.{◌≡◌, ◌<◌, ◌≤◌, length, take, Some, sym, ap, ◌∙◌, arith, length-take, rules}
+use Rattle.std.proofs.Common.{◌<◌, ◌≤◌, length, take, Some, sym, ap, ◌∙◌, arith, length-take, rules}
 use Rattle.meaning.proofs.Listed.{nth_past}
 use Rattle.copies.proofs.Rows.{nth_within}
 use Rattle.copies.proofs.tapes.Tape.value.Goals as goal
