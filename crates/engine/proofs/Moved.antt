@@ -1,7 +1,6 @@
 -- From what a copy does by its plan to what the turn answers. Assumes nothing.
 use Rattle.std.proofs.Common.{◌≡◌, ℕ, Some, None, Option, sym, refl, ap, arith}
 use Rattle.meaning.specs.Answers.{turned}
-use Rattle.meaning.specs.Copies.{Copy}
 use Rattle.meaning.specs.Visits.{State, Plan, go, lacks_value, lacks_space, ended, counted, moving}
 use Rattle.meaning.specs.declared.answers.Act.{Act}
 use Rattle.meaning.specs.declared.answers.Turned.TheVariants.{Nobody, Moved}

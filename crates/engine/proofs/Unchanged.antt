@@ -7,7 +7,7 @@ use Rattle.copies.specs.Held.{steps_of}
 use Rattle.engine.specs.declared.visit.Visit.{Visit}
 
 -- a visit whose host is as it was is as it was
-pub same_host : {R H : Type 0} (v : Visit R H) (h : H) (u : v.turns ≤ 1000000) (q : (l : ℕ) → steps_of v.copies l ≤ v.turns) → h ≡ v.host →
+pub same_host : {R H : Type 0} {r : _} {k : _} (v : Visit R H r k) (h : H) (u : v.turns ≤ 1000000) (q : (l : ℕ) → steps_of v.copies l ≤ v.turns) → h ≡ v.host →
     record { script = v.script; regime = v.regime; host = h; turns = v.turns; copies = v.copies; tapes = v.tapes; unspent = u; paced = q } ≡ v
 same_host v h u q e = λ i.
     record {

@@ -1,5 +1,4 @@
 -- A visit as a value, read as its frame and its state. Assumes nothing.
-use Rattle.std.specs.Prelude.{ℕ, ℤ}
 use Rattle.host.specs.Channels.{Channels}
 use Rattle.regime.specs.Order.{Order}
 use Rattle.script.specs.declared.accepted.Script.{Script}
@@ -15,11 +14,11 @@ abbrev pub opening : Script → Order → Channels → Opening
 opening s r h = record { script = program s; order = r; host = h }
 
 -- by what the regime answers and what the host's channels are
-abbrev pub frame_of : {R H : Type 0} → (R → Order) → (H → Channels) → Visit R H → Frame
+abbrev pub frame_of : {R H : Type 0} {r : _} {h : _} → (R → Order) → (H → Channels) → Visit R H r h → Frame
 frame_of order channels v =
     record { script = program v.script; order = order v.regime; count = (channels v.host).count; capacity = (channels v.host).capacity }
 
-abbrev pub state_of : {R H : Type 0} → (H → Channels) → Visit R H → State
+abbrev pub state_of : {R H : Type 0} {r : _} {h : _} → (H → Channels) → Visit R H r h → State
 state_of channels v =
     record {
       turns = v.turns;
@@ -31,6 +30,6 @@ state_of channels v =
 
 -- The call x of the visit v is answered by a and leaves the visit w: script, regime, channel count and capacities are as
 -- they were, and the state and the answer are what the meaning gives.
-abbrev pub Serves : {R H : Type 0} → (R → Order) → (H → Channels) → Visit R H → Call → Visit R H → Answer → Type 0
+abbrev pub Serves : {R H : Type 0} {r : _} {h : _} → (R → Order) → (H → Channels) → Visit R H r h → Call → Visit R H r h → Answer → Type 0
 Serves order channels v x w a =
     Served (frame_of order channels v) (state_of channels v) x (frame_of order channels w) (state_of channels w) a

@@ -1,6 +1,5 @@
-use Rattle.std.proofs.Common.{◌≡◌, ℕ, Some, None, Option, sym, ap, ◌∙◌, subst}
+use Rattle.std.proofs.Common.{ℕ, Some, None, Option, sym, ap, ◌∙◌, subst}
 use Rattle.meaning.specs.Visits.{Frame, State, plan, counted, picked}
-use Rattle.meaning.specs.declared.answers.Act.{Act}
 use Rattle.engine.specs.Serves.{Does, Memory}
 use Rattle.engine.specs.Views.{frame_of, state_of}
 use Rattle.engine.proofs.Moved.{moved, stayed}

@@ -1,7 +1,6 @@
-use Rattle.std.proofs.Common.{◌≡◌, ℕ, ◌<◌, ℤ, refl, ap, ◌∙◌, arith, to_z-of_z}
-use Rattle.copies.specs.Held.{copies_of, steps_of, tapes_of}
-use Rattle.meaning.specs.Copies.{Copy, assign, further, with_at}
-use Rattle.engine.proofs.Allowed.{steps_on, assigns, reads}
+use Rattle.std.proofs.Common.{◌<◌, refl, arith}
+use Rattle.copies.specs.Held.{steps_of, tapes_of}
+use Rattle.engine.proofs.Allowed.{steps_on}
 use Rattle.engine.proofs.Unchanged.{paced_after}
 use Rattle.engine.proofs.visit.Visit.go_to.Goals as goal
 
@@ -11,7 +10,7 @@ invariant_of-self g c =
     let l = c.args.level in
     let few : steps_of v.copies l < 4294967295 = omega arith in
     let did = c.go_to.ensures.done (steps_on v.copies l c.requires.inside few) in
-    (v.unspent, (paced_after (steps_of v.copies) (steps_of c.go_to.new.self) l v.turns c.requires.counted v.paced did.steps, tt))
+    record { unspent = v.unspent; paced = paced_after (steps_of v.copies) (steps_of c.go_to.new.self) l v.turns c.requires.counted v.paced did.steps }
 
 pub returns : goal.returns
 returns g c =

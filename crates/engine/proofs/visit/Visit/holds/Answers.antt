@@ -1,4 +1,4 @@
-use Rattle.std.proofs.Common.{◌≡◌, ltb, length, sym, ap, ◌∙◌, rules}
+use Rattle.std.proofs.Common.{◌≡◌, ltb, length, ap, ◌∙◌, rules}
 use Rattle.engine.proofs.Hosted.{some_held}
 use Rattle.engine.proofs.visit.Visit.holds.Goals as goal
 

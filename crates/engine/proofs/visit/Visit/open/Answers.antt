@@ -1,13 +1,11 @@
-use Rattle.std.proofs.Common.{◌≡◌, ℕ, List, [], ℤ, sym, ap, ◌∙◌, ap₂}
+use Rattle.std.proofs.Common.{◌≡◌, ℕ, List, [], ℤ, ap}
 use mathlib.Core.Path.{fun_ext}
 use Rattle.copies.specs.Held.{copies_of, steps_of, tapes_of}
-use Rattle.host.specs.Channels.{Channels}
 use Rattle.meaning.specs.Copies.{Copy, first}
 use Rattle.meaning.specs.Programs.{program}
 use Rattle.meaning.specs.Visits.{Opening}
 use Rattle.meaning.proofs.Kept.{kept}
 use Rattle.meaning.proofs.Soundness.{every_sound}
-use Rattle.regime.specs.Order.{Order}
 use Rattle.engine.specs.Views.{opening}
 use Rattle.engine.proofs.visit.Visit.open.Goals as goal
 

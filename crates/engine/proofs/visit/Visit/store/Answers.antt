@@ -1,7 +1,7 @@
-use Rattle.std.proofs.Common.{◌≡◌, ℕ, ◌<◌, ℤ, refl, ap, ◌∙◌, arith, to_z-of_z}
+use Rattle.std.proofs.Common.{ℕ, ◌<◌, ℤ, refl, ap, ◌∙◌, arith, to_z-of_z}
 use Rattle.copies.specs.Held.{copies_of, steps_of, tapes_of}
-use Rattle.meaning.specs.Copies.{Copy, assign, further, with_at}
-use Rattle.engine.proofs.Allowed.{steps_on, assigns, reads}
+use Rattle.meaning.specs.Copies.{Copy, assign, with_at}
+use Rattle.engine.proofs.Allowed.{assigns}
 use Rattle.engine.proofs.Unchanged.{paced_after}
 use Rattle.engine.proofs.visit.Visit.store.Goals as goal
 
@@ -12,7 +12,7 @@ invariant_of-self g c =
     let few : steps_of v.copies l < 4294967295 = omega arith in
     let early : (copies_of v.copies l).next < 65535 = omega (arith, v.script.counted.1) in
     let did = c.assign.ensures.done (assigns v.copies l c.requires.inside few c.args.target c.requires.register early) in
-    (v.unspent, (paced_after (steps_of v.copies) (steps_of c.assign.new.self) l v.turns c.requires.counted v.paced did.steps, tt))
+    record { unspent = v.unspent; paced = paced_after (steps_of v.copies) (steps_of c.assign.new.self) l v.turns c.requires.counted v.paced did.steps }
 
 pub returns : goal.returns
 returns g c =

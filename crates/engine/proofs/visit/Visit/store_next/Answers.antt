@@ -1,7 +1,7 @@
-use Rattle.std.proofs.Common.{◌≡◌, ℕ, ◌<◌, ℤ, refl, ap, ◌∙◌, arith, to_z-of_z}
+use Rattle.std.proofs.Common.{ℕ, ◌<◌, ℤ, refl, ap, ◌∙◌, arith, to_z-of_z}
 use Rattle.copies.specs.Held.{copies_of, steps_of, tapes_of}
 use Rattle.meaning.specs.Copies.{Copy, assign, further, with_at}
-use Rattle.engine.proofs.Allowed.{steps_on, assigns, reads}
+use Rattle.engine.proofs.Allowed.{reads}
 use Rattle.engine.proofs.Unchanged.{paced_after}
 use Rattle.engine.proofs.visit.Visit.store_next.Goals as goal
 
@@ -13,7 +13,7 @@ invariant_of-self g c =
     let early : (copies_of v.copies l).next < 65535 = omega (arith, v.script.counted.1) in
     let before : (copies_of v.copies l).positions c.args.channel < 255 = omega arith in
     let did = c.read.ensures.done (reads v.copies l c.requires.inside few c.args.target c.args.channel c.requires.register early c.requires.port before) in
-    (v.unspent, (paced_after (steps_of v.copies) (steps_of c.read.new.self) l v.turns c.requires.counted v.paced did.steps, tt))
+    record { unspent = v.unspent; paced = paced_after (steps_of v.copies) (steps_of c.read.new.self) l v.turns c.requires.counted v.paced did.steps }
 
 pub returns : goal.returns
 returns g c =

@@ -1,4 +1,4 @@
-use Rattle.std.proofs.Common.{◌≡◌, sym, refl, subst, rules}
+use Rattle.std.proofs.Common.{sym, refl, subst, rules}
 use Rattle.host.specs.Channels.{Channels, after_take}
 use Rattle.engine.proofs.Hosted.{Take, take_comes_to}
 use Rattle.engine.proofs.Unchanged.{same_host}
