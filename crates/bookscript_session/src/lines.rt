@@ -10,10 +10,10 @@ pub struct Lines<R> {
 }
 
 impl<R: Read + Drop> Lines<R> {
-    pub fn new(rt: &HostRuntime, input: R) -> Lines<R> {
-        Lines {
-            parts: BufReader::new(input).split(rt.alloc(), b'\n'),
-        }
+    pub fn new(rt: &HostRuntime, input: R) -> io::Result<Lines<R>> {
+        Ok(Lines {
+            parts: BufReader::new(rt.alloc(), input)?.split(rt.alloc(), b'\n'),
+        })
     }
 
     // The next command; nothing where the lines end. A line that cannot be understood is answered too, so that the

@@ -259,7 +259,7 @@ fn round<R: Read + Drop>(
 
 // All lines of one input.
 pub fn answer_lines<R: Read + Drop>(rt: &HostRuntime, input: R) -> io::Result<()> {
-    let mut lines = Lines::new(rt, input);
+    let mut lines = Lines::new(rt, input)?;
     let mut made = Made {
         script: None,
         regime: None,

@@ -1,8 +1,8 @@
 -- The laws of hex text. Assumes nothing.
-use Rattle.std.proofs.Common.{◌≡◌, ℕ, ◌+◌, ◌*◌, ◌/◌, ◌%◌, ◌<◌, Bool, true, false, cond, ◌&&◌, ◌||◌, ltb, List, [], ◌∷◌, ◌++◌, map, length, is_some, is_ok, Some, None, Ok, Err, Option, Result, sym, refl, ap, ◌∙◌, arith}
+use Rattle.std.proofs.Common.{◌≡◌, ℕ, ◌+◌, ◌*◌, ◌/◌, ◌%◌, ◌<◌, Bool, true, false, cond, ◌&&◌, ◌||◌, List, [], ◌∷◌, ◌++◌, map, length, is_some, is_ok, Some, None, Ok, Err, Option, Result, sym, refl, ap, ◌∙◌, arith}
 use Rattle.std.specs.Char.{is_ascii_hexdigit, to_ascii_lowercase}
 use Rattle.std.specs.Int.{is_in_range}
-use Rattle.std.specs.List.{AllByRecursion as All}
+use Rattle.std.specs.List.{AllByRecursion}
 use Rattle.std.proofs.lemmas.Bool.{and_parts, and_from}
 use Rattle.std.proofs.lemmas.Bool.Decides.{nat_tests}
 use Rattle.text.specs.declared.error.LineError.{LineError}
@@ -33,7 +33,7 @@ pair : (a b : ℕ) (t : List ℕ) → is_ok (decoded (a ∷ b ∷ t)) ≡ ((is_a
 pair a b t =
     led (byte_of a b) (decoded t) ∙ ap (λ x. x && is_ok (decoded t)) (both (nibble_of a) (nibble_of b) ∙ (ap (λ x. x && is_some (nibble_of b)) (digit a) ∙ ap (λ x. is_ascii_hexdigit a && x) (digit b)))
 
-is_hex : (t : List ℕ) → is_ok (decoded t) ≡ true → (length t % 2 ≡ 0) × All (λ c. is_ascii_hexdigit c ≡ true) t
+is_hex : (t : List ℕ) → is_ok (decoded t) ≡ true → (length t % 2 ≡ 0) × AllByRecursion (λ c. is_ascii_hexdigit c ≡ true) t
 is_hex [] e = (refl, tt)
 is_hex (a ∷ []) e = absurd (let z : ◌≡◌ {A = ℕ} 0 1 = cc in omega arith)
 is_hex (a ∷ b ∷ t) e =
@@ -42,7 +42,7 @@ is_hex (a ∷ b ∷ t) e =
     let (even, all) = is_hex t rest in
     (omega arith, (one, (other, all)))
 
-is_decoded : (t : List ℕ) → (length t % 2 ≡ 0) → All (λ c. is_ascii_hexdigit c ≡ true) t → is_ok (decoded t) ≡ true
+is_decoded : (t : List ℕ) → (length t % 2 ≡ 0) → AllByRecursion (λ c. is_ascii_hexdigit c ≡ true) t → is_ok (decoded t) ≡ true
 is_decoded [] even all = refl
 is_decoded (a ∷ []) even all = absurd (omega arith)
 is_decoded (a ∷ b ∷ t) even (one, (other, all)) = pair a b t ∙ and_from _ _ (and_from _ _ one other) (is_decoded t (omega arith) all)

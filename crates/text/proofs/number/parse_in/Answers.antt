@@ -1,4 +1,4 @@
-use Rattle.std.proofs.Common.{◌≡◌, ◌<◌, length, Some, sym, ap, ◌∙◌, arith, false-eqb}
+use Rattle.std.proofs.Common.{◌<◌, length, Some, sym, ap, ◌∙◌, arith, false-eqb}
 use Rattle.std.proofs.lemmas.List.{drop_all}
 use Rattle.text.specs.Numbers.{number_in}
 use Rattle.text.proofs.Counts.{read_from, read_all, read_more, read_stops}
@@ -9,11 +9,11 @@ loop-c-init c some =
     let long : 0 < length c.args.text.now = omega (arith, false-eqb) in
     read_all c.args.base some c.args.text.now long
 
-pub returns-in-err-number : goal.returns-in-err-number
-returns-in-err-number c = rw c.from-residual.ensures (read_stops c.args.base c.requires.some c.args.text.now c.loop-c.c-index c.loop-c.number (number_in c.args.base c.args.text.now) (omega arith) c.in-err-number.ensures (c.loop-c.invariant c.requires.some))
+pub returns-in_err-number : goal.returns-in_err-number
+returns-in_err-number c = rw c.from_residual.ensures (read_stops c.args.base c.requires.some c.args.text.now c.loop-c.c-index c.loop-c.number (number_in c.args.base c.args.text.now) (omega arith) c.in_err-number.ensures (c.loop-c.invariant c.requires.some))
 
 pub loop-c-preserved : goal.loop-c-preserved
-loop-c-preserved c some = read_more c.args.base some c.args.text.now c.loop-c.c-index c.loop-c.number (Some c.in-ok-number.number) (number_in c.args.base c.args.text.now) (omega arith) c.in-ok-number.ensures (c.loop-c.invariant some)
+loop-c-preserved c some = read_more c.args.base some c.args.text.now c.loop-c.c-index c.loop-c.number (Some c.in_ok-number.number) (number_in c.args.base c.args.text.now) (omega arith) c.in_ok-number.ensures (c.loop-c.invariant some)
 
 pub returns : goal.returns
 returns c = ap (read_from c.args.base c.requires.some (Some c.loop-c.number)) (sym (drop_all c.loop-c.c-index c.args.text.now (omega arith))) ∙ c.loop-c.invariant c.requires.some

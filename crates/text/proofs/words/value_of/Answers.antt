@@ -1,5 +1,5 @@
 -- A minus sign and digits. Assumes nothing.
-use Rattle.std.proofs.Common.{◌≡◌, ◌-◌, ◌<◌, length, get_or, take, drop, ap, ◌∙◌, arith, length-drop, rules}
+use Rattle.std.proofs.Common.{◌≡◌, ◌-◌, ◌<◌, length, get_or, drop, ap, ◌∙◌, arith, length-drop, rules}
 use Rattle.std.proofs.lemmas.List.{take_all}
 use Rattle.text.specs.Arguments.{negative}
 use Rattle.text.proofs.Signs.{minus}
@@ -11,4 +11,4 @@ returns-in-45 c =
     let some : 0 < length w = search rules in
     let sign : get_or w 0 0 ≡ 45 = search rules in
     let all = take_all (length w - 1) (drop 1 w) (omega (arith, length-drop 1 w)) in
-    c.negative-of.ensures ∙ ap negative c.parse-number.ensures ∙ minus w _ some sign all
+    c.negative_of.ensures ∙ ap negative c.parse_number.ensures ∙ minus w _ some sign all

@@ -1,4 +1,4 @@
-use Rattle.std.proofs.Common.{◌≡◌, Err, sym, inr, arith}
+use Rattle.std.proofs.Common.{sym, inr, arith}
 use Rattle.std.proofs.lemmas.Result.{err_from_is_err_and}
 use Rattle.text.specs.Arguments.{entry_of}
 use Rattle.text.specs.Words.{left}
@@ -9,15 +9,15 @@ pub loop-i-init : goal.loop-i-init
 loop-i-init c = start (entry_of c.args.kind) (left c.args.self.now)
 
 pub loop-i-preserved : goal.loop-i-preserved
-loop-i-preserved c = more (entry_of c.args.kind) _ c.loop-i.i c.loop-i.entries _ c.in-Some.word.now _ c.in-ok-entries.field-0 (omega arith) c.in-Some.ensures (sym c.in-ok-entries.ensures) c.loop-i.invariant
+loop-i-preserved c = more (entry_of c.args.kind) _ c.loop-i.i c.loop-i.entries _ c.in-Some.word.now _ c.in_ok-entries.field-0 (omega arith) c.in-Some.ensures (sym c.in_ok-entries.ensures) c.loop-i.invariant
 
-pub returns-in-default : goal.returns-in-default
-returns-in-default c = short (entry_of c.args.kind) _ c.loop-i.i c.loop-i.entries _ _ (omega arith) c.in-default.ensures.0 c.in-default.ensures.1 c.loop-i.invariant
+pub returns-in_default : goal.returns-in_default
+returns-in_default c = short (entry_of c.args.kind) _ c.loop-i.i c.loop-i.entries _ _ (omega arith) c.in_default.ensures.0 c.in_default.ensures.1 c.loop-i.invariant
 
-pub returns-in-err-entries : goal.returns-in-err-entries
-returns-in-err-entries c =
-    let p = err_from_is_err_and c.from-residual.result c.from-residual.ensures.1 in
-    rw (p.1, p.2) (inr (stop (entry_of c.args.kind) _ c.loop-i.i c.loop-i.entries _ c.in-Some.word.now _ _ (omega arith) c.in-Some.ensures (sym c.in-err-entries.ensures) c.loop-i.invariant))
+pub returns-in_err-entries : goal.returns-in_err-entries
+returns-in_err-entries c =
+    let p = err_from_is_err_and c.from_residual.result c.from_residual.ensures.1 in
+    rw (p.1, p.2) (inr (stop (entry_of c.args.kind) _ c.loop-i.i c.loop-i.entries _ c.in-Some.word.now _ _ (omega arith) c.in-Some.ensures (sym c.in_err-entries.ensures) c.loop-i.invariant))
 
 pub returns : goal.returns
 returns c = done (entry_of c.args.kind) _ c.loop-i.i c.loop-i.entries _ (omega arith) c.loop-i.invariant
