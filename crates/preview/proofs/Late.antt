@@ -6,7 +6,7 @@ use Rattle.meaning.specs.Copies.{Copy, Plain, nth, plain_input, plain_read, plai
 use Rattle.meaning.specs.Programs.{Program, instruction_at}
 use Rattle.meaning.specs.Visits.{put_on}
 use Rattle.meaning.proofs.Lists.{nth_more, put_adds}
-use Rattle.preview.specs.Acts.{did_read, did_by, did, Stepped, written_after}
+use Rattle.preview.specs.Acts.{did_read, did_by, did}
 use Rattle.preview.specs.Previews.{told_on, moved, moves, Fed, begins, steps, adds, EveryLateValue}
 use Rattle.preview.specs.declared.acts.Did.{Did}
 use Rattle.preview.specs.declared.acts.Did.TheVariants.{Inner, Got, Defaulted, Wrote, Waits, Ended}

@@ -1,2 +1,3 @@
+pub mod Inward
 pub mod Late
 pub mod Told

@@ -1,11 +1,10 @@
 -- What rows of steps tell is what the plain run writes. Assumes nothing.
-use Rattle.std.proofs.Common.{◌≡◌, ℕ, suc, Bool, List, [], ◌∷◌, ◌++◌, length, ℤ, sym, refl, ap, ◌∙◌, append_assoc, append-nil}
+use Rattle.std.proofs.Common.{◌≡◌, ℕ, suc, List, [], ◌∷◌, ◌++◌, length, ℤ, sym, refl, ap, ◌∙◌, append_assoc, append-nil}
 use mathlib.Core.Path.{fun_ext}
-use Rattle.meaning.specs.Copies.{Copy, Plain, first, plain_run, plain_step}
-use Rattle.meaning.specs.Programs.{Program}
+use Rattle.meaning.specs.Copies.{plain_run, plain_step}
 use Rattle.meaning.proofs.Lists.{put_adds}
-use Rattle.preview.specs.Acts.{Stepped, written_after}
-use Rattle.preview.specs.Previews.{wrote_on, told_on, Steps, begun, one_more, EveryPreview}
+use Rattle.preview.specs.Acts.{written_after}
+use Rattle.preview.specs.Previews.{wrote_on, told_on, begun, one_more, EveryPreview}
 use Rattle.preview.specs.declared.acts.Did.{Did}
 use Rattle.preview.specs.declared.acts.Did.TheVariants.{Inner, Got, Defaulted, Wrote, Waits, Ended}
 

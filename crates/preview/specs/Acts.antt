@@ -1,5 +1,5 @@
 -- What one step of a plain run does, and what its acts tell. Assumes nothing.
-use Rattle.std.specs.Prelude.{◌≡◌, ℕ, Bool, cond, List, [], ◌∷◌, ◌++◌, ℤ, nat_lt}
+use Rattle.std.specs.Prelude.{◌≡◌, ℕ, Bool, cond, List, ℤ, nat_lt}
 use Rattle.script.specs.declared.parts.Instruction.{Instruction}
 use Rattle.script.specs.declared.parts.Instruction.TheVariants.{Skip, Set, Compute, Jump, Input, Output, Stop}
 use Rattle.meaning.specs.Copies.{Copy, InputValue, default, value, missing, nth, plain_input, plain_step}

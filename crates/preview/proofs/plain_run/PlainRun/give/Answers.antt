@@ -1,0 +1,7 @@
+-- A give that is refused answers what was judged.
+use Rattle.std.proofs.lemmas.Result.{err_from_is_err_and}
+use Rattle.preview.proofs.plain_run.PlainRun.give.Goals as goal
+
+pub returns-in_err-judge-clause-answer : goal.returns-in_err-judge-clause-answer
+returns-in_err-judge-clause-answer c =
+    let p = err_from_is_err_and c.from_residual.result c.from_residual.ensures.1 in rw (p.1, p.2) c.in_err-judge.ensures
