@@ -1,6 +1,6 @@
 -- What is written is bytes. Assumes nothing.
 use Rattle.std.proofs.Common.{◌≡◌, ℕ, zero, suc, ◌/◌, ◌^◌, ◌<◌, ◌≤◌, true, eqb, List, [], ◌∷◌, ◌++◌, length, arith}
-use Rattle.std.specs.List.{flat_map, AllByRecursion as All}
+use Rattle.std.specs.List.{flat_map, AllByRecursion}
 use Rattle.std.proofs.lemmas.Bool.{cond_both}
 use Rattle.std.proofs.ByRecursion.{All-from_get_or}
 use Rattle.script.specs.declared.parts.Instruction.TheVariants.{Skip}
@@ -32,7 +32,7 @@ body_bytes (w ∷ ws) (v ∷ vs) = both_bytes (field_of w v) (body_of ws vs) (fi
 record_bytes : (ws vs : List ℕ) → Fit ws vs → 2 ^ length ws ≤ 256 → Bytes (record_of ws vs)
 record_bytes ws vs fit le = (omega (arith, map_small ws vs fit), body_bytes ws vs)
 
-joined_bytes : {X : Type 0} (enc : X → List ℕ) (P : X → Type 0) → ((x : X) → P x → Bytes (enc x)) → (xs : List X) → All P xs → Bytes (flat_map enc xs)
+joined_bytes : {X : Type 0} (enc : X → List ℕ) (P : X → Type 0) → ((x : X) → P x → Bytes (enc x)) → (xs : List X) → AllByRecursion P xs → Bytes (flat_map enc xs)
 joined_bytes enc P each [] h = tt
 joined_bytes enc P each (x ∷ xs) h = both_bytes (enc x) (flat_map enc xs) (each x h.0) (joined_bytes enc P each xs h.1)
 

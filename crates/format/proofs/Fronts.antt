@@ -1,6 +1,6 @@
 -- Records one after another, and the front of a file up to each stage of its reading. Assumes nothing.
 use Rattle.std.proofs.Common.{◌≡◌, ℕ, zero, suc, ◌+◌, ◌*◌, ◌/◌, ◌%◌, ◌<◌, ◌≤◌, true, false, ◌&&◌, leb, ◌⊎◌, List, [], ◌∷◌, ◌++◌, length, Ok, Err, Result, sym, refl, ap, ◌∙◌, subst, inl, inr, ⊎_elim, append_assoc, arith}
-use Rattle.std.specs.List.{flat_map, AllByRecursion as All}
+use Rattle.std.specs.List.{flat_map, AllByRecursion}
 use Rattle.std.proofs.lemmas.Bool.{le-leb, leb-true, and_from, and_parts, cond-true, cond-false, cases_Bool}
 use Rattle.std.proofs.ByRecursion.{All-get_or, All-from_get_or}
 use Rattle.refusal.specs.declared.Fault.{Fault}
@@ -36,7 +36,7 @@ bytes_after (x ∷ a) b bs e h = bytes_after a b (a ++ b) refl (subst Bytes (sym
 module _ {X : Type 0} (one : ℕ → List ℕ → Result (X × List ℕ) Fault) (enc : X → List ℕ) (P : X → Type 0) where
   -- records that are written are read again
   module _ (each : (i : ℕ) (x : X) (rest : List ℕ) → P x → one i (enc x ++ rest) ≡ Ok (x, rest)) where
-    pub many_read : (xs : List X) (i : ℕ) (rest : List ℕ) → All P xs → read_many one (length xs) i (flat_map enc xs ++ rest) ≡ Ok (xs, rest)
+    pub many_read : (xs : List X) (i : ℕ) (rest : List ℕ) → AllByRecursion P xs → read_many one (length xs) i (flat_map enc xs ++ rest) ≡ Ok (xs, rest)
     many_read [] i rest h = refl
     many_read (x ∷ xs) i rest h =
         let a = each i x (flat_map enc xs ++ rest) h.0 in
@@ -44,7 +44,7 @@ module _ {X : Type 0} (one : ℕ → List ℕ → Result (X × List ℕ) Fault) 
         rw append_assoc (simp (a, b))
 
     -- and then one that is refused
-    pub many_stops : (xs : List X) (n i j : ℕ) (rest : List ℕ) (f : Fault) → All P xs → length xs < n → j ≡ i + length xs → one j rest ≡ Err f → read_many one n i (flat_map enc xs ++ rest) ≡ Err f
+    pub many_stops : (xs : List X) (n i j : ℕ) (rest : List ℕ) (f : Fault) → AllByRecursion P xs → length xs < n → j ≡ i + length xs → one j rest ≡ Err f → read_many one n i (flat_map enc xs ++ rest) ≡ Err f
     many_stops [] zero i j rest f h lt e g = absurd (omega arith)
     many_stops [] (suc n) i j rest f h lt e g =
         let same : j ≡ i = omega arith in
@@ -57,10 +57,10 @@ module _ {X : Type 0} (one : ℕ → List ℕ → Result (X × List ℕ) Fault) 
 
   module _ (each : (i : ℕ) (bs : List ℕ) (x : X) (rest : List ℕ) → Bytes bs → one i bs ≡ Ok (x, rest) → (enc x ++ rest ≡ bs) × P x) where
     -- records that are read are what would be written
-    pub many_written : (k i : ℕ) (bs : List ℕ) (xs : List X) (rest : List ℕ) → Bytes bs → read_many one k i bs ≡ Ok (xs, rest) → (flat_map enc xs ++ rest ≡ bs) × (length xs ≡ k) × All P xs
+    pub many_written : (k i : ℕ) (bs : List ℕ) (xs : List X) (rest : List ℕ) → Bytes bs → read_many one k i bs ≡ Ok (xs, rest) → (flat_map enc xs ++ rest ≡ bs) × (length xs ≡ k) × AllByRecursion P xs
     many_written zero i bs xs rest h e =
         let p = parts _ _ _ _ e in
-        (ap (λ l. flat_map enc l ++ rest) (sym p.0) ∙ sym p.1, ap length (sym p.0), subst (All P) p.0 tt)
+        (ap (λ l. flat_map enc l ++ rest) (sym p.0) ∙ sym p.1, ap length (sym p.0), subst (AllByRecursion P) p.0 tt)
     many_written (suc k) i bs xs rest h e =
         let a = and_then_ok (one i bs) _ _ e in
         let b = and_then_ok (read_many one k (i + 1) a.0.1) _ _ a.2 in
@@ -69,17 +69,17 @@ module _ {X : Type 0} (one : ℕ → List ℕ → Result (X × List ℕ) Fault) 
         let there = many_written k (i + 1) a.0.1 b.0.0 b.0.1 (bytes_after (enc a.0.0) a.0.1 bs here.0 h) b.1 in (
           ap (λ l. flat_map enc l ++ rest) (sym p.0) ∙ append_assoc (enc a.0.0) (flat_map enc b.0.0) rest ∙ ap (λ l. enc a.0.0 ++ (flat_map enc b.0.0 ++ l)) (sym p.1) ∙ ap (λ l. enc a.0.0 ++ l) there.0 ∙ here.0,
           ap length (sym p.0) ∙ ap suc there.1,
-          subst (All P) p.0 (here.1, there.2),
+          subst (AllByRecursion P) p.0 (here.1, there.2),
         )
 
     -- a fault among records is that of one of them, and those before it are what would be written
-    pub many_stopped : (k i : ℕ) (bs : List ℕ) (f : Fault) → Bytes bs → read_many one k i bs ≡ Err f → (xs : List X) × (rest : List ℕ) × (flat_map enc xs ++ rest ≡ bs) × All P xs × (length xs < k) × (one (i + length xs) rest ≡ Err f)
+    pub many_stopped : (k i : ℕ) (bs : List ℕ) (f : Fault) → Bytes bs → read_many one k i bs ≡ Err f → (xs : List X) × (rest : List ℕ) × (flat_map enc xs ++ rest ≡ bs) × AllByRecursion P xs × (length xs < k) × (one (i + length xs) rest ≡ Err f)
     many_stopped zero i bs f h e = let z : ◌≡◌ {A = ℕ} 0 1 = cc in absurd (omega arith)
     many_stopped (suc k) i bs f h e =
-        let first : one i bs ≡ Err f → (xs : List X) × (rest : List ℕ) × (flat_map enc xs ++ rest ≡ bs) × All P xs × (length xs < suc k) × (one (i + length xs) rest ≡ Err f) = λ g.
+        let first : one i bs ≡ Err f → (xs : List X) × (rest : List ℕ) × (flat_map enc xs ++ rest ≡ bs) × AllByRecursion P xs × (length xs < suc k) × (one (i + length xs) rest ≡ Err f) = λ g.
         let same : i ≡ i + 0 = omega arith in
         ([], bs, refl, tt, omega arith, subst (λ j. one j bs ≡ Err f) same g) in
-        let later : ((x : X × List ℕ) × (one i bs ≡ Ok x) × (and_then (read_many one k (i + 1) x.1) (λ y. Ok (x.0 ∷ y.0, y.1)) ≡ Err f)) → (xs : List X) × (rest : List ℕ) × (flat_map enc xs ++ rest ≡ bs) × All P xs × (length xs < suc k) × (one (i + length xs) rest ≡ Err f) = λ g.
+        let later : ((x : X × List ℕ) × (one i bs ≡ Ok x) × (and_then (read_many one k (i + 1) x.1) (λ y. Ok (x.0 ∷ y.0, y.1)) ≡ Err f)) → (xs : List X) × (rest : List ℕ) × (flat_map enc xs ++ rest ≡ bs) × AllByRecursion P xs × (length xs < suc k) × (one (i + length xs) rest ≡ Err f) = λ g.
         let x = g.0 in
         let here = each i bs x.0 x.1 h g.1 in
         let fails : read_many one k (i + 1) x.1 ≡ Err f = ⊎_elim (λ u. u) (λ u. let w = u.2 in let z : ◌≡◌ {A = ℕ} 0 1 = cc in absurd (omega arith)) (and_then_err (read_many one k (i + 1) x.1) (λ y. Ok (x.0 ∷ y.0, y.1)) f g.2) in
@@ -202,7 +202,7 @@ past_instructions end bs n cs is rest r =
     ∙ step _ _ (λ x. from_tail end n cs x.0 x.1) (instructions_read end cs (length is) r.headed.2 r.counted.1 is rest refl r.sound)
 
 -- what has been read is a right front
-pub channels_stand : (end : ℕ) (bs : List ℕ) (n : ℕ) (r1 : List ℕ) (c : ℕ) (r2 : List ℕ) → read_head end 1 16 bs ≡ Ok (n, r1) → read_head end 0 16 r1 ≡ Ok (c, r2) → (cs : List Channel) (rest : List ℕ) → flat_map encode_channel cs ++ rest ≡ r2 → All (λ (c : Channel). c.level < n) cs → ChannelsRight bs n c cs rest
+pub channels_stand : (end : ℕ) (bs : List ℕ) (n : ℕ) (r1 : List ℕ) (c : ℕ) (r2 : List ℕ) → read_head end 1 16 bs ≡ Ok (n, r1) → read_head end 0 16 r1 ≡ Ok (c, r2) → (cs : List Channel) (rest : List ℕ) → flat_map encode_channel cs ++ rest ≡ r2 → AllByRecursion (λ (c : Channel). c.level < n) cs → ChannelsRight bs n c cs rest
 channels_stand end bs n r1 c r2 e1 e2 cs rest e all =
     let a = head_ok end 1 16 bs n r1 e1 in
     let b = head_ok end 0 16 r1 c r2 e2 in
@@ -232,7 +232,7 @@ channels_stood end bs n r1 c r2 cs r3 h e1 e2 e3 =
     )
 
 -- the count is read, and some instructions after it
-pub instructions_stand : (bs : List ℕ) (n : ℕ) (cs : List Channel) (r3 : List ℕ) (end m : ℕ) (r4 : List ℕ) → Bytes r3 → ChannelsRight bs n (length cs) cs r3 → read_count end r3 ≡ Ok (m, r4) → (is : List Instruction) (rest : List ℕ) → flat_map encode_instruction is ++ rest ≡ r4 → All (λ x. sound cs (length cs) m x ≡ true) is → InstructionsRight bs n cs m is rest
+pub instructions_stand : (bs : List ℕ) (n : ℕ) (cs : List Channel) (r3 : List ℕ) (end m : ℕ) (r4 : List ℕ) → Bytes r3 → ChannelsRight bs n (length cs) cs r3 → read_count end r3 ≡ Ok (m, r4) → (is : List Instruction) (rest : List ℕ) → flat_map encode_instruction is ++ rest ≡ r4 → AllByRecursion (λ x. sound cs (length cs) m x ≡ true) is → InstructionsRight bs n cs m is rest
 instructions_stand bs n cs r3 end m r4 h r e4 is rest e all =
     let c = count_ok end r3 m r4 h e4 in
     record {

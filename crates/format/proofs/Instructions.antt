@@ -3,7 +3,7 @@ use Rattle.std.proofs.Common.{◌≡◌, ℕ, zero, suc, ◌^◌, ◌<◌, ◌�
 use mir.Facts.{Fits-of_z, sfits_to_z}
 use Rattle.std.proofs.lemmas.Int.{to_z-of_z, of_z-to_z}
 use Rattle.std.proofs.lemmas.Bool.{ltb-true, leb-true, and_parts, cond-true, cond-false, and_from, le-leb, leb-false, eqb-true, eqb-false, ne_eqb, cond_both, or_left, or_right, or_from}
-use Rattle.std.specs.List.{AllByRecursion as All}
+use Rattle.std.specs.List.{AllByRecursion}
 use Rattle.script.specs.declared.parts.Channel.{Channel}
 use Rattle.script.specs.declared.parts.Operation.{Operation}
 use Rattle.script.specs.declared.parts.Operation.TheVariants.{Add, Subtract, Multiply, Quotient, Remainder, Less, Same}
@@ -24,11 +24,11 @@ use Rattle.format.proofs.Round.{Fit, value_of, read_record_lem, write_record, br
 use Rattle.format.proofs.Channels.{at_value}
 
 -- every rule is kept
-pub kept_all : (rs : List Rule) → broken rs ≡ None → All (λ r. r.kept ≡ true) rs
+pub kept_all : (rs : List Rule) → broken rs ≡ None → AllByRecursion (λ r. r.kept ≡ true) rs
 kept_all [] e = tt
 kept_all (r ∷ rs) e = let k = all_kept r rs e in (k.0, kept_all rs k.1)
 
-at_shown : (fs : List Field) (k : ℕ) → All (λ f. not f.present ≡ eqb f.value 0) fs → not (at fs k).present ≡ eqb (at fs k).value 0
+at_shown : (fs : List Field) (k : ℕ) → AllByRecursion (λ f. not f.present ≡ eqb f.value 0) fs → not (at fs k).present ≡ eqb (at fs k).value 0
 at_shown [] k h = refl
 at_shown (f ∷ fs) zero h = h.0
 at_shown (f ∷ fs) (suc k) h = at_shown fs k h.1
@@ -51,7 +51,7 @@ pub record Kept (cs : List Channel) (m k t f s n p c : ℕ) : Type 0 where
 abbrev Keeps : List Channel → ℕ → List ℕ → Type 0
 Keeps cs m vs = Kept cs m (get_or vs 0 0) (get_or vs 1 0) (get_or vs 2 0) (get_or vs 3 0) (get_or vs 4 0) (get_or vs 5 0) (get_or vs 6 0)
 
-rules_kept : (cs : List Channel) (m : ℕ) (s : Site) (fs : List Field) (vs : List ℕ) → map value_of fs ≡ vs → All (λ f. not f.present ≡ eqb f.value 0) fs → Keeps cs m vs → broken (instruction_rules cs m s fs) ≡ None
+rules_kept : (cs : List Channel) (m : ℕ) (s : Site) (fs : List Field) (vs : List ℕ) → map value_of fs ≡ vs → AllByRecursion (λ f. not f.present ≡ eqb f.value 0) fs → Keeps cs m vs → broken (instruction_rules cs m s fs) ≡ None
 rules_kept cs m s fs vs e h k =
     let v : (i : ℕ) → (at fs i).value ≡ get_or vs i 0 = λ i. at_value fs i ∙ ap (λ l. get_or l i 0) e in
     let w : (u : ℕ → Bool) (i : ℕ) → (u (get_or vs 0 0) || eqb (get_or vs i 0) 0) ≡ true → (u (at fs 0).value || not (at fs i).present) ≡ true =
@@ -190,7 +190,7 @@ kind_operation (suc (suc (suc (suc (suc (suc (suc (suc zero)))))))) l r = refl
 kind_operation (suc (suc (suc (suc (suc (suc (suc (suc (suc k))))))))) l r = absurd (omega arith)
 
 -- the values of seven fields that keep the rules are those of the instruction that they make
-values_again : (cs : List Channel) (m : ℕ) (s : Site) (fs : List Field) → Fit instruction_widths (map value_of fs) → broken (instruction_rules cs m s fs) ≡ None → All (λ f. f.present ≡ false → f.value ≡ 0) fs → instruction_values (instruction_of fs) ≡ map value_of fs
+values_again : (cs : List Channel) (m : ℕ) (s : Site) (fs : List Field) → Fit instruction_widths (map value_of fs) → broken (instruction_rules cs m s fs) ≡ None → AllByRecursion (λ f. f.present ≡ false → f.value ≡ 0) fs → instruction_values (instruction_of fs) ≡ map value_of fs
 values_again cs m s [] fit ok g = absurd fit
 values_again cs m s (a ∷ []) fit ok g = absurd fit.1
 values_again cs m s (a ∷ b ∷ []) fit ok g = absurd fit.1.1

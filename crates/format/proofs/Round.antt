@@ -1,7 +1,7 @@
 -- Reading what is written, and writing what is read. Assumes nothing.
 use Rattle.std.proofs.Common.{◌≡◌, ℕ, zero, suc, ◌+◌, ◌-◌, ◌*◌, ◌/◌, ◌%◌, ◌^◌, ◌<◌, ◌≤◌, Bool, true, false, cond, not, ◌&&◌, eqb, ltb, leb, List, [], ◌∷◌, ◌++◌, map, length, take, drop, Some, None, Ok, Err, Option, Result, sym, refl, ap, ◌∙◌, subst, ⊎_elim, append_assoc, pow-suc, arith, lit<, lit≤, length-append}
 use native.Mathlib.Nat.{one-le-pow}
-use Rattle.std.specs.List.{AllByRecursion as All}
+use Rattle.std.specs.List.{AllByRecursion}
 use Rattle.std.proofs.lemmas.Bool.{lt-ltb, le-leb, cond-true, cond-false, cond_both, cases_Bool, true≢false, not-true, eq-eqb, eqb-true, leb-true, ltb-true, eqb-false, ne_eqb}
 use Rattle.std.proofs.lemmas.List.{take_at, drop_at, take-append-drop, length-take-le}
 use Rattle.std.proofs.ByRecursion.{All-take, All-drop}
@@ -61,7 +61,7 @@ pub record Back (s : Site) (ws vs rest : List ℕ) (m : ℕ) (bs : List ℕ) : T
   pub reads : read_fields s ws m bs ≡ Ok (fields, rest)
   pub holds : map value_of fields ≡ vs
   pub clean : broken (map (not_zero s) fields) ≡ None
-  pub shown : All (λ f. not f.present ≡ eqb f.value 0) fields
+  pub shown : AllByRecursion (λ f. not f.present ≡ eqb f.value 0) fields
 
 module _ (s : Site) (w : ℕ) (ws : List ℕ) (v : ℕ) (vs rest : List ℕ) (ih : Back s ws vs rest (map_of vs) (body_of ws vs ++ rest)) where
   -- a field that is 0 is absent
@@ -138,7 +138,7 @@ pub record Forth (ws : List ℕ) (m : ℕ) (bs : List ℕ) (fs : List Field) (re
   pub map_is : map_of (map value_of fs) ≡ m
   pub body_is : body_of ws (map value_of fs) ++ rest ≡ bs
   pub fit : Fit ws (map value_of fs)
-  pub gone : All (λ f. f.present ≡ false → f.value ≡ 0) fs
+  pub gone : AllByRecursion (λ f. f.present ≡ false → f.value ≡ 0) fs
 
 module _ (s : Site) (w : ℕ) (ws : List ℕ) (m : ℕ) (bs : List ℕ) (f : Field) (r : List ℕ) (fs : List Field) (rest : List ℕ) (h : Bytes bs) (fine : (not_zero s f).kept ≡ true) where
   forth_none : odd m ≡ false → read_field s w (odd m) bs ≡ Ok (f, r) → Forth ws (m / 2) r fs rest → Forth (w ∷ ws) m bs (f ∷ fs) rest
@@ -215,7 +215,7 @@ map_small (w ∷ ws) (v ∷ vs) h =
 
 module _ {X : Type 0} (ws : List ℕ) (rules : Site → List Field → List Rule) (make : List Field → X) (s : Site) where
   -- what is written is read, up to the record's own rules
-  pub read_record_lem : (vs rest : List ℕ) → Fit ws vs → (fs : List Field) × (map value_of fs ≡ vs) × (read_record ws rules make s (record_of ws vs ++ rest) ≡ unless (broken (rules s fs)) (make fs, rest)) × All (λ f. not f.present ≡ eqb f.value 0) fs
+  pub read_record_lem : (vs rest : List ℕ) → Fit ws vs → (fs : List Field) × (map value_of fs ≡ vs) × (read_record ws rules make s (record_of ws vs ++ rest) ≡ unless (broken (rules s fs)) (make fs, rest)) × AllByRecursion (λ f. not f.present ≡ eqb f.value 0) fs
   read_record_lem vs rest h =
       let b = back s ws vs rest h in (
         b.fields,
@@ -227,10 +227,10 @@ module _ {X : Type 0} (ws : List ℕ) (rules : Site → List Field → List Rule
       )
 
   -- what is read is what would be written
-  pub write_record : (bs rest : List ℕ) (x : X) → Bytes bs → read_record ws rules make s bs ≡ Ok (x, rest) → (fs : List Field) × (record_of ws (map value_of fs) ++ rest ≡ bs) × Fit ws (map value_of fs) × (broken (rules s fs) ≡ None) × (make fs ≡ x) × All (λ f. f.present ≡ false → f.value ≡ 0) fs
+  pub write_record : (bs rest : List ℕ) (x : X) → Bytes bs → read_record ws rules make s bs ≡ Ok (x, rest) → (fs : List Field) × (record_of ws (map value_of fs) ++ rest ≡ bs) × Fit ws (map value_of fs) × (broken (rules s fs) ≡ None) × (make fs ≡ x) × AllByRecursion (λ f. f.present ≡ false → f.value ≡ 0) fs
   write_record [] rest x h e = let z : ◌≡◌ {A = ℕ} 0 1 = cc in absurd (omega arith)
   write_record (m ∷ bs) rest x h e =
-      let wide : (ltb m (2 ^ length ws) ≡ true) → (fs : List Field) × (record_of ws (map value_of fs) ++ rest ≡ m ∷ bs) × Fit ws (map value_of fs) × (broken (rules s fs) ≡ None) × (make fs ≡ x) × All (λ f. f.present ≡ false → f.value ≡ 0) fs =
+      let wide : (ltb m (2 ^ length ws) ≡ true) → (fs : List Field) × (record_of ws (map value_of fs) ++ rest ≡ m ∷ bs) × Fit ws (map value_of fs) × (broken (rules s fs) ≡ None) × (make fs ≡ x) × AllByRecursion (λ f. f.present ≡ false → f.value ≡ 0) fs =
       λ t.
       let one = and_then_ok (read_fields s ws m bs) _ _ (sym (cond-true _ _ _ t) ∙ e) in
       let y = one.0 in
@@ -239,6 +239,6 @@ module _ {X : Type 0} (ws : List ℕ) (rules : Site → List Field → List Rule
       let f = forth s ws m bs y.0 y.1 (ltb-true _ _ t) h.1 one.1 three.0 in
       let end : y.1 ≡ rest = ap (λ (p : X × List ℕ). p.1) two.1 in
       (y.0, subst (λ l. record_of ws (map value_of y.0) ++ l ≡ m ∷ bs) end (simp (f.map_is, f.body_is)), f.fit, three.1, ap (λ (p : X × List ℕ). p.0) two.1, f.gone) in
-      let narrow : (ltb m (2 ^ length ws) ≡ false) → (fs : List Field) × (record_of ws (map value_of fs) ++ rest ≡ m ∷ bs) × Fit ws (map value_of fs) × (broken (rules s fs) ≡ None) × (make fs ≡ x) × All (λ f. f.present ≡ false → f.value ≡ 0) fs =
+      let narrow : (ltb m (2 ^ length ws) ≡ false) → (fs : List Field) × (record_of ws (map value_of fs) ++ rest ≡ m ∷ bs) × Fit ws (map value_of fs) × (broken (rules s fs) ≡ None) × (make fs ≡ x) × AllByRecursion (λ f. f.present ≡ false → f.value ≡ 0) fs =
       λ t. let d = sym (cond-false _ _ _ t) ∙ e in let z : ◌≡◌ {A = ℕ} 0 1 = cc in absurd (omega arith) in
       ⊎_elim wide narrow (cases_Bool (ltb m (2 ^ length ws)))

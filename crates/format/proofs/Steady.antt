@@ -1,6 +1,6 @@
 -- What a reader of a front answers depends on the bytes that it reads, and its faults lie there. Assumes nothing.
 use Rattle.std.proofs.Common.{◌≡◌, ℕ, zero, suc, ◌+◌, ◌-◌, ◌*◌, ◌/◌, ◌^◌, ◌<◌, ◌≤◌, Bool, true, false, cond, ◌&&◌, ltb, leb, ◌⊎◌, List, [], ◌∷◌, ◌++◌, map, length, take, drop, Some, None, Ok, Err, Option, Result, sym, refl, ap, ◌∙◌, subst, inl, inr, ⊎_elim, arith, length-append, length-drop}
-use Rattle.std.specs.List.{AllByRecursion as All}
+use Rattle.std.specs.List.{AllByRecursion}
 use Rattle.std.proofs.lemmas.Bool.{le-leb, leb-false, cond-true, cond-false, cases_Bool}
 use Rattle.std.proofs.lemmas.List.{take-append-le, drop-append-le}
 use Rattle.refusal.specs.declared.Refusal.{Refusal}
@@ -131,12 +131,12 @@ field_short s w true bs g e =
 
 -- the widths of a record are at least 1
 abbrev pub Wide : List ℕ → Type 0
-Wide = All (λ w. 1 ≤ w)
+Wide = AllByRecursion (λ w. 1 ≤ w)
 
-fields_placed : (s : Site) (ws : List ℕ) (m : ℕ) (bs : List ℕ) (fs : List Field) (r : List ℕ) (low high : ℕ) → Wide ws → length bs ≤ s.length → low ≤ s.length - length bs → s.length - length bs + announced ws m ≤ high → Placed low high s.length s.map_at → read_fields s ws m bs ≡ Ok (fs, r) → All (λ f. Placed low high s.length f.byte) fs × (length fs ≡ length ws) × (length r ≤ length bs)
+fields_placed : (s : Site) (ws : List ℕ) (m : ℕ) (bs : List ℕ) (fs : List Field) (r : List ℕ) (low high : ℕ) → Wide ws → length bs ≤ s.length → low ≤ s.length - length bs → s.length - length bs + announced ws m ≤ high → Placed low high s.length s.map_at → read_fields s ws m bs ≡ Ok (fs, r) → AllByRecursion (λ f. Placed low high s.length f.byte) fs × (length fs ≡ length ws) × (length r ≤ length bs)
 fields_placed s [] m bs fs r low high wide le l h p e =
     let q = parts _ _ _ _ e in
-    (subst (All (λ f. Placed low high s.length f.byte)) q.0 tt, ap length (sym q.0), omega (arith, ap length q.1))
+    (subst (AllByRecursion (λ f. Placed low high s.length f.byte)) q.0 tt, ap length (sym q.0), omega (arith, ap length q.1))
 fields_placed s (w ∷ ws) m bs fs r low high wide le l h p e =
     let a = and_then_ok (read_field s w (odd m) bs) (λ x. and_then (read_fields s ws (m / 2) x.1) (λ y. Ok (x.0 ∷ y.0, y.1))) (fs, r) e in
     let b = and_then_ok (read_fields s ws (m / 2) a.0.1) (λ y. Ok (a.0.0 ∷ y.0, y.1)) (fs, r) a.2 in
@@ -145,7 +145,7 @@ fields_placed s (w ∷ ws) m bs fs r low high wide le l h p e =
     let short = one.1 in
     let near = one.2 in
     let more = fields_placed s ws (m / 2) a.0.1 b.0.0 b.0.1 low high wide.1 (omega arith) (omega arith) (omega arith) p b.1 in
-    (subst (All (λ f. Placed low high s.length f.byte)) q.0 (one.0, more.0), ap length (sym q.0) ∙ ap suc more.1, omega (arith, more.2, ap length q.1))
+    (subst (AllByRecursion (λ f. Placed low high s.length f.byte)) q.0 (one.0, more.0), ap length (sym q.0) ∙ ap suc more.1, omega (arith, more.2, ap length q.1))
 
 fields_short : (s : Site) (ws : List ℕ) (m : ℕ) (bs : List ℕ) (g : Fault) (high : ℕ) → Wide ws → length bs ≤ s.length → s.length - length bs + announced ws m ≤ high → Placed 0 high s.length s.map_at → read_fields s ws m bs ≡ Err g → (short_at s ≡ g) × (s.length < high)
 fields_short s [] m bs g high wide le h p e = let z : ◌≡◌ {A = ℕ} 0 1 = cc in absurd (omega arith)
@@ -184,7 +184,7 @@ fields_left s (w ∷ ws) m bs fs r e =
     omega (arith, field_left s w (odd m) bs a.0.0 a.0.1 a.1, fields_left s ws (m / 2) a.0.1 b.0.0 b.0.1 b.1, ap length (parts _ _ _ _ b.2).1)
 
 -- the first broken rule is one of them
-broken_one : (Q : Fault → Type 0) (rs : List Rule) (f : Fault) → All (λ r. Q r.else) rs → broken rs ≡ Some f → Q f
+broken_one : (Q : Fault → Type 0) (rs : List Rule) (f : Fault) → AllByRecursion (λ r. Q r.else) rs → broken rs ≡ Some f → Q f
 broken_one Q [] f h e = let z : ◌≡◌ {A = ℕ} 0 1 = cc in absurd (omega arith)
 broken_one Q (r ∷ rs) f h e =
     ⊎_elim
@@ -204,7 +204,7 @@ Middle r = (r ≡ why.Map) ⊎ ((r ≡ why.Zero) ⊎ (r ≡ why.Range))
 pub record Local (ws : List ℕ) (rules : Site → List Field → List Rule) : Type 1 where
   pub wide : Wide ws
   pub same : (k : ℕ) (s : Site) (fs : List Field) → rules (grown k s) fs ≡ rules s fs
-  pub placed : (Q : ℕ → Type 0) (s : Site) (fs : List Field) → length fs ≡ length ws → Q s.map_at → All (λ f. Q f.byte) fs → All (λ r. Q r.else.byte × Middle r.else.refusal × (r.else.part ≡ s.part)) (rules s fs)
+  pub placed : (Q : ℕ → Type 0) (s : Site) (fs : List Field) → length fs ≡ length ws → Q s.map_at → AllByRecursion (λ f. Q f.byte) fs → AllByRecursion (λ r. Q r.else.byte × Middle r.else.refusal × (r.else.part ≡ s.part)) (rules s fs)
 
 middle_not_short : (r : Refusal) → Middle r → r ≡ why.Short → ⊥
 middle_not_short r m e =
@@ -223,11 +223,11 @@ head_not_tail r a b = let z : ◌≡◌ {A = ℕ} 0 1 = cc in omega arith
 head_not_short : (r : Refusal) → r ≡ why.Head → r ≡ why.Short → ⊥
 head_not_short r a b = let z : ◌≡◌ {A = ℕ} 0 1 = cc in omega arith
 
-all_both : {X : Type 0} (P : X → Type 0) (xs ys : List X) → All P xs → All P ys → All P (xs ++ ys)
+all_both : {X : Type 0} (P : X → Type 0) (xs ys : List X) → AllByRecursion P xs → AllByRecursion P ys → AllByRecursion P (xs ++ ys)
 all_both P [] ys h g = g
 all_both P (x ∷ xs) ys h g = (h.0, all_both P xs ys h.1 g)
 
-zeros_placed : (Q : ℕ → Type 0) (s : Site) (fs : List Field) → All (λ f. Q f.byte) fs → All (λ r. Q r.else.byte × Middle r.else.refusal × (r.else.part ≡ s.part)) (map (not_zero s) fs)
+zeros_placed : (Q : ℕ → Type 0) (s : Site) (fs : List Field) → AllByRecursion (λ f. Q f.byte) fs → AllByRecursion (λ r. Q r.else.byte × Middle r.else.refusal × (r.else.part ≡ s.part)) (map (not_zero s) fs)
 zeros_placed Q s [] h = tt
 zeros_placed Q s (f ∷ fs) h = ((h.0, inr (inl refl), refl), zeros_placed Q s fs h.1)
 
@@ -480,13 +480,13 @@ steady_count = record {
 }
 
 -- the faults of a channel's rules stand at its fields
-channel_placed : (n : ℕ) (Q : ℕ → Type 0) (s : Site) (fs : List Field) → length fs ≡ 2 → Q s.map_at → All (λ f. Q f.byte) fs → All (λ r. Q r.else.byte × Middle r.else.refusal × (r.else.part ≡ s.part)) (channel_rules n s fs)
+channel_placed : (n : ℕ) (Q : ℕ → Type 0) (s : Site) (fs : List Field) → length fs ≡ 2 → Q s.map_at → AllByRecursion (λ f. Q f.byte) fs → AllByRecursion (λ r. Q r.else.byte × Middle r.else.refusal × (r.else.part ≡ s.part)) (channel_rules n s fs)
 channel_placed n Q s [] e q h = absurd (omega arith)
 channel_placed n Q s (a ∷ []) e q h = absurd (omega arith)
 channel_placed n Q s (a ∷ b ∷ fs) e q h = ((h.0, inr (inr refl), refl), ((h.1.0, inr (inr refl), refl), tt))
 
 -- and those of an instruction's rules at its fields or its map byte
-instruction_placed : (cs : List Channel) (m : ℕ) (Q : ℕ → Type 0) (s : Site) (fs : List Field) → length fs ≡ 7 → Q s.map_at → All (λ f. Q f.byte) fs → All (λ r. Q r.else.byte × Middle r.else.refusal × (r.else.part ≡ s.part)) (instruction_rules cs m s fs)
+instruction_placed : (cs : List Channel) (m : ℕ) (Q : ℕ → Type 0) (s : Site) (fs : List Field) → length fs ≡ 7 → Q s.map_at → AllByRecursion (λ f. Q f.byte) fs → AllByRecursion (λ r. Q r.else.byte × Middle r.else.refusal × (r.else.part ≡ s.part)) (instruction_rules cs m s fs)
 instruction_placed cs m Q s [] e q h = absurd (omega arith)
 instruction_placed cs m Q s (a ∷ []) e q h = absurd (omega arith)
 instruction_placed cs m Q s (a ∷ b ∷ []) e q h = absurd (omega arith)

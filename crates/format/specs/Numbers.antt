@@ -1,6 +1,6 @@
 -- Numbers in bytes, low byte first, and the bits of a map. Assumes nothing.
 use Rattle.std.specs.Prelude.{ℕ, zero, suc, ◌+◌, ◌*◌, ◌/◌, ◌%◌, ◌<◌, Bool, List, [], ◌∷◌, ◌==◌}
-use Rattle.std.specs.List.{AllByRecursion as All}
+use Rattle.std.specs.List.{AllByRecursion}
 
 -- v in w bytes, low byte first
 abbrev pub bytes_of : ℕ → ℕ → List ℕ
@@ -22,4 +22,4 @@ bit (suc k) m = bit k (m / 2)
 
 -- what a file may be: each element is a byte
 abbrev pub Bytes : List ℕ → Type 0
-Bytes = All (λ b. b < 256)
+Bytes = AllByRecursion (λ b. b < 256)
