@@ -1,9 +1,9 @@
 -- Bits of numbers: `bit_and a b ≡ a` says that every one bit of a is one in b. Assumes nothing.
-use Rattle.std.specs.Prelude.{◌≡◌, ℕ, zero, suc, ◌+◌, ◌*◌, ◌/◌, ◌%◌, ◌^◌, ◌<◌, ◌≤◌, min, Bool, true, false, Decides, ◌==◌, ◌≢◌, nat_eq, refl}
-use Rattle.std.proofs.Common.{sym, ap, subst, ◌∙◌, arith, shr-shr, pow_pos, pow_mono, ⊎_elim, lt_of_lt_of_le, div-lt_iff_lt-mul}
+use Rattle.std.specs.Prelude.{◌≡◌, ℕ, ◌+◌, ◌/◌, ◌%◌, ◌^◌, ◌<◌, ◌≤◌, min, true, Decides, ◌==◌, ◌≢◌, nat_eq, refl}
+use Rattle.std.proofs.Common.{sym, ap, ◌∙◌, arith, shr-shr, pow_pos, pow_mono, ⊎_elim, lt_of_lt_of_le, div-lt_iff_lt-mul}
 use Rattle.std.proofs.Math.Arith.{bin_ind, digits_mod}
 use Rattle.std.specs.Int.Bits.{bit_and, and_step, and_zero_r}
-use Rattle.std.proofs.lemmas.Nat.{and_shr, and_comm}
+use Rattle.std.proofs.lemmas.Nat.{and_shr}
 use Rattle.std.proofs.Math.Nat.{div-eq_of_lt}
 use Rattle.std.proofs.lemmas.Bool.{eqb-true, eq-eqb, cases_lt}
 use Rattle.std.proofs.lemmas.Bool.Decides.{nat_tests}

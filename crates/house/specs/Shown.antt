@@ -2,8 +2,7 @@
 use Rattle.std.specs.Prelude.{◌≡◌, ℕ, ◌<◌, ◌≤◌, Bool, true, List, length, slice_index_or}
 use Rattle.std.proofs.Common.{⊎_elim, arith}
 use Rattle.std.proofs.Math.Logic.{∥∥₁_elim}
-use Rattle.std.proofs.Math.Bridge.{le_prop}
-use denote.Struct.Props.{props, three_prop}
+use denote.Struct.Props.{props}
 use Rattle.std.proofs.lemmas.List.{get_or_past}
 use Rattle.std.proofs.lemmas.Bool.{cases_lt}
 use Rattle.regime.specs.Order.{Partial, partial_prop, Lawful}
@@ -17,7 +16,7 @@ ordered_prop n flows = partial_prop (hlevel props) (hlevel props) (hlevel props)
 
 -- what an order map's ghost field holds
 pub accepted : (n : ℕ) (rows : List ℕ) → ∥ Accepted n rows ∥₁ → Accepted n rows
-accepted n rows h = ∥∥₁_elim h (three_prop le_prop le_prop (ordered_prop n (told rows))) (λ x. x)
+accepted n rows h = ∥∥₁_elim h (hlevel (props, ordered_prop n (told rows))) (λ x. x)
 
 pub mapped_lawful : (n : ℕ) (rows : List ℕ) → Accepted n rows → Lawful (mapped n rows)
 mapped_lawful n rows h = own_turn_lawful n (told rows) h.0 h.1 h.2

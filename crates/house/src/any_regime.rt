@@ -1,8 +1,5 @@
 // Any of the three regimes: for programs that are told the kind of levels only when they run.
-ghost use Rattle.house.specs.AnyOrder.{order_of};
-ghost use Rattle.page.specs.Rungs.{ladder_lawful};
-ghost use Rattle.class.specs.Covers.{compartments_lawful};
-ghost use Rattle.house.specs.Shown.{accepted, mapped_lawful};
+ghost use Rattle.house.specs.AnyOrder.{any_lawful, order_of};
 
 use crate::order_map::OrderMap;
 use class::compartments::Compartments;
@@ -20,11 +17,7 @@ pub enum AnyRegime {
 impl Regime for AnyRegime {
     ghost order = { order_of };
 
-    ghost lawful = { elim [
-      | any.Ladder r ↦ ladder_lawful r.levels r.bounded.0 r.bounded.1
-      | any.Compartments r ↦ compartments_lawful r.marks r.bounded
-      | any.Map r ↦ mapped_lawful r.levels r.rows (accepted r.levels r.rows r.accepted)
-    ] };
+    ghost lawful = { any_lawful };
 
     fn levels(&self) -> u8 {
         match self {

@@ -1,7 +1,7 @@
 -- The channels of the slot host. Assumes nothing.
-use Rattle.std.proofs.Common.{◌≡◌, ℕ, ◌<◌, cond, eqb, List, [], length, get_or, set, ℤ, sym, refl, ap, ◌∙◌}
+use Rattle.std.proofs.Common.{◌≡◌, ℕ, ◌<◌, cond, eqb, List, [], length, get_or, set, ℤ, sym, ap, ◌∙◌}
 use mathlib.Core.Path.{fun_ext}
-use Rattle.host.specs.Channels.{Channels, with_list}
+use Rattle.host.specs.Channels.{with_list}
 use Rattle.host.proofs.Lists.{at_is, at_set}
 use Rattle.page.specs.declared.slots.Queue.{Queue}
 use Rattle.page.specs.Slots.{contents, slots}

@@ -1,5 +1,5 @@
 -- The ladder. Assumes nothing.
-use Rattle.std.specs.Prelude.{◌≡◌, ℕ, zero, suc, ◌<◌, ◌≤◌, Bool, true, false, cond, ◌&&◌, Some, None, Option, nat_le, nat_lt}
+use Rattle.std.specs.Prelude.{◌≡◌, ℕ, zero, suc, ◌<◌, ◌≤◌, true, false, cond, ◌&&◌, Some, None, Option, nat_le, nat_lt}
 use Rattle.regime.specs.Order.{Order, Levels}
 
 -- the first answer that there is

@@ -3,7 +3,7 @@ use Rattle.std.specs.Prelude.{◌≡◌, ℕ, ◌<◌, ◌≤◌, Bool, true, fa
 use Rattle.std.proofs.Common.{sym, ap, ◌∙◌, arith}
 use Rattle.std.proofs.lemmas.Bool.{cond-true, lt-ltb, ltb-true}
 use Rattle.std.proofs.lemmas.Bool.Decides.{nat_tests}
-use Rattle.regime.specs.Order.{Order, Levels, Partial, Lawful}
+use Rattle.regime.specs.Order.{Partial, Lawful}
 use Rattle.page.specs.Ladder.{ladder, lowest, PicksLowest}
 use Rattle.page.specs.Lowest.{lowest_found, lowest_some, lowest_any, lowest_same}
 

@@ -1,4 +1,4 @@
-use Rattle.std.proofs.Common.{◌≡◌, ◌^◌, ap, subst}
+use Rattle.std.proofs.Common.{◌^◌, ap, subst}
 use Rattle.class.specs.Compartments.{compartments, OwnTurns}
 use Rattle.class.specs.Covers.{own_turns}
 use Rattle.class.proofs.compartments.Compartments.new.Goals as goal

@@ -4,4 +4,4 @@ use Rattle.house.proofs.order_map.OrderMap.new.Goals as goal
 
 pub invariant_of-result : goal.invariant_of-result
 invariant_of-result c =
-    (∣ (omega arith, omega arith, partial_from c.args.n c.args.rows (c.if-is_clear.ensures.0 refl) (c.if-is_reflexive.ensures.0 refl) (c.if-is_one_way.ensures.0 refl) (c.if-is_transitive.ensures.0 refl)) ∣₁, tt)
+    record { accepted = ∣ (omega arith, omega arith, partial_from c.args.n c.args.rows (c.if-is_clear.ensures.0 refl) (c.if-is_reflexive.ensures.0 refl) (c.if-is_one_way.ensures.0 refl) (c.if-is_transitive.ensures.0 refl)) ∣₁ }

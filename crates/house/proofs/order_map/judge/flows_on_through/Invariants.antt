@@ -1,4 +1,3 @@
-use Rattle.std.proofs.Common.{ℕ, ◌<◌}
 use Rattle.house.specs.Rows.{OnwardThrough}
 use Rattle.house.proofs.order_map.judge.flows_on_through.Given as goal
 

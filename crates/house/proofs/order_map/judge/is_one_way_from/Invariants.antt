@@ -1,4 +1,3 @@
-use Rattle.std.proofs.Common.{ℕ, ◌<◌}
 use Rattle.house.specs.Rows.{OneWayFrom}
 use Rattle.house.proofs.order_map.judge.is_one_way_from.Given as goal
 

@@ -1,4 +1,4 @@
-use Rattle.std.proofs.Common.{◌≡◌, sym, ap, ◌∙◌, subst}
+use Rattle.std.proofs.Common.{ap, subst}
 use Rattle.page.specs.Ladder.{ladder, PicksLowest}
 use Rattle.page.specs.Rungs.{picks_lowest}
 use Rattle.page.proofs.ladder.Ladder.new.Goals as goal

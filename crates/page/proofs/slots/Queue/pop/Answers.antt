@@ -1,5 +1,5 @@
 -- The front of the table has one value fewer. Assumes nothing.
-use Rattle.std.proofs.Common.{◌≡◌, ◌-◌, ◌<◌, ◌≤◌, length, get_or, take, Ok, sym, ap, ◌∙◌, arith, length-take, to_z-of_z, w32}
+use Rattle.std.proofs.Common.{◌-◌, ◌<◌, ◌≤◌, length, take, Ok, sym, ap, ◌∙◌, arith, length-take, to_z-of_z, w32}
 use Rattle.page.proofs.Queues.{front, behind}
 use Rattle.page.proofs.slots.Queue.pop.Goals as goal
 

@@ -1,5 +1,5 @@
 -- The front of the table has one value more. Assumes nothing.
-use Rattle.std.proofs.Common.{◌≡◌, ◌+◌, ◌<◌, [], ◌∷◌, ◌++◌, length, take, ap, ◌∙◌, arith, length-take, to_z-of_z}
+use Rattle.std.proofs.Common.{◌+◌, ◌<◌, [], ◌∷◌, ◌++◌, length, take, ap, ◌∙◌, arith, length-take, to_z-of_z}
 use Rattle.std.proofs.lemmas.List.{take_more_set}
 use Rattle.page.proofs.slots.Queue.push.Goals as goal
 

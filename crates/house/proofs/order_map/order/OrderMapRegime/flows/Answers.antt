@@ -1,5 +1,4 @@
-use Rattle.std.proofs.Common.{arith, rules}
-use Rattle.std.proofs.lemmas.Bool.Decides.{nat_tests}
+use Rattle.std.proofs.Common.{rules}
 use Rattle.house.specs.Shown.{accepted}
 use Rattle.house.proofs.order_map.order.OrderMapRegime.flows.Goals as goal
 

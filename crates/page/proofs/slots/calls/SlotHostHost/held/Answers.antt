@@ -1,5 +1,5 @@
 -- The queue's length is the channel's. Assumes nothing.
-use Rattle.std.proofs.Common.{◌≡◌, ℕ, ◌<◌, length, ap, ◌∙◌, arith}
+use Rattle.std.proofs.Common.{◌<◌, length, ap, ◌∙◌, arith}
 use Rattle.host.proofs.Shown.{held_is}
 use Rattle.page.specs.Slots.{slots}
 use Rattle.page.proofs.Slotted.{shows}

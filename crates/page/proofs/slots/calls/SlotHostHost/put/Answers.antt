@@ -1,5 +1,5 @@
 -- A put on a full channel, and on one with room. Assumes nothing.
-use Rattle.std.proofs.Common.{◌≡◌, ℕ, ◌<◌, ◌≤◌, List, [], ◌∷◌, ◌++◌, length, sym, refl, ap, ◌∙◌, arith, to_z-of_z, w32, to_z, of_z}
+use Rattle.std.proofs.Common.{◌<◌, ◌≤◌, [], ◌∷◌, ◌++◌, length, sym, refl, ap, ◌∙◌, arith, to_z-of_z, w32, to_z, of_z}
 use Rattle.host.proofs.Shown.{put_fits, after_fits, put_full, after_full}
 use Rattle.page.specs.Slots.{slots}
 use Rattle.page.proofs.Slotted.{shows, changes}

@@ -1,5 +1,5 @@
 -- What the queue lacks is what the channel lacks. Assumes nothing.
-use Rattle.std.proofs.Common.{◌≡◌, ℕ, ◌-◌, ◌<◌, length, ap, ◌∙◌, arith}
+use Rattle.std.proofs.Common.{◌-◌, ◌<◌, length, ap, ◌∙◌, arith}
 use Rattle.host.proofs.Shown.{space_is}
 use Rattle.page.specs.Slots.{slots}
 use Rattle.page.proofs.Slotted.{shows}

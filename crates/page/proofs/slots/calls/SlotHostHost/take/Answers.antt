@@ -1,5 +1,5 @@
 -- A take from an empty channel, and from one that holds something. Assumes nothing.
-use Rattle.std.proofs.Common.{◌≡◌, ℕ, ◌<◌, List, [], length, Ok, sym, refl, ap, ◌∙◌, arith, to_z-of_z, w32}
+use Rattle.std.proofs.Common.{◌≡◌, ◌<◌, length, Ok, sym, refl, ap, ◌∙◌, arith, to_z-of_z, w32}
 use Rattle.std.proofs.lemmas.List.{nil_from_length}
 use Rattle.host.specs.Channels.{oldest, rest}
 use Rattle.host.proofs.Shown.{take_some, after_some, take_none, after_none}
