@@ -24,8 +24,14 @@ IMPORT = re.compile(r"^\s*(?:ghost\s+)?(?:pub\s+)?use\s+([\w.'+-]+?)\.\{([^}]*)\
 
 # Names that would fall together: a lemma that would have its function's name.
 LEMMAS = {n: n.replace("-", "_") + "_lem" for n in ("from-channels", "from-count", "from-instructions", "from-width", "read-record")}
-# The same, of a lemma that the port's own scripts respelled.
-IN_FILES = {"crates/format/proofs/Files.antt": {"from_tail": "from_tail_lem"}}
+# Facts that were written as functions are.
+LEMMAS.update({"if-accepted": "IfAccepted", "if-refused": "IfRefused", "any-puts": "AnyPuts", "any-takes": "AnyTakes"})
+# A lemma that the port's own scripts respelled, and facts of one crate.
+IN_FILES = {
+    "crates/format/proofs/Files.antt": {"from_tail": "from_tail_lem"},
+    "crates/own_host/specs/Added.antt": {"told": "Told"},
+    "crates/own_host/src/lanes/build.rt": {"told": "Told"},
+}
 
 
 def walk(ending):

@@ -14,15 +14,15 @@ any_lawful own laws (Slot h) = slot.slots_lawful h
 any_lawful own laws (Own h) = laws h
 
 -- a put leaves a host of the same kind, and what that kind says of its memory
-abbrev pub any_puts : {H : Type 0} → (H → ℕ → ℤ → H → Type 0) → AnyHost H → ℕ → ℤ → AnyHost H → Type 0
-any_puts own (Slot h) c v (Slot k) = slot.NoMemoryPut h c v k
-any_puts own (Own h) c v (Own k) = own h c v k
-any_puts own (Slot h) c v (Own k) = ⊥
-any_puts own (Own h) c v (Slot k) = ⊥
+abbrev pub AnyPuts : {H : Type 0} → (H → ℕ → ℤ → H → Type 0) → AnyHost H → ℕ → ℤ → AnyHost H → Type 0
+AnyPuts own (Slot h) c v (Slot k) = slot.NoMemoryPut h c v k
+AnyPuts own (Own h) c v (Own k) = own h c v k
+AnyPuts own (Slot h) c v (Own k) = ⊥
+AnyPuts own (Own h) c v (Slot k) = ⊥
 
 -- and so does a take
-abbrev pub any_takes : {H : Type 0} → (H → ℕ → H → Type 0) → AnyHost H → ℕ → AnyHost H → Type 0
-any_takes own (Slot h) c (Slot k) = slot.NoMemoryTake h c k
-any_takes own (Own h) c (Own k) = own h c k
-any_takes own (Slot h) c (Own k) = ⊥
-any_takes own (Own h) c (Slot k) = ⊥
+abbrev pub AnyTakes : {H : Type 0} → (H → ℕ → H → Type 0) → AnyHost H → ℕ → AnyHost H → Type 0
+AnyTakes own (Slot h) c (Slot k) = slot.NoMemoryTake h c k
+AnyTakes own (Own h) c (Own k) = own h c k
+AnyTakes own (Slot h) c (Own k) = ⊥
+AnyTakes own (Own h) c (Slot k) = ⊥

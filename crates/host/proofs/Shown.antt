@@ -3,7 +3,7 @@ use Rattle.std.proofs.Common.{◌≡◌, ℕ, ◌-◌, ◌<◌, ◌≤◌, List,
 use Rattle.std.proofs.lemmas.Bool.{lt-ltb, le-ltb, cond-true, cond-false}
 use Rattle.refusal.specs.declared.Refusal.{Refusal}
 use Rattle.refusal.specs.declared.Refusal.TheVariants.{Full, Empty}
-use Rattle.host.specs.Channels.{Channels, with_list, on_ok, of_channel, stored, lacking, push_answer, oldest, rest, put_answer, after_put, take_answer, after_take, if_accepted, if_refused}
+use Rattle.host.specs.Channels.{Channels, with_list, on_ok, of_channel, stored, lacking, push_answer, oldest, rest, put_answer, after_put, take_answer, after_take, IfAccepted, IfRefused}
 
 -- a call on a channel that there is
 pub on_channel : {A : Type 0} (b : Channels) (c : ℕ) (r : Result A Refusal) → c < b.count → of_channel b c r ≡ r
@@ -49,10 +49,10 @@ has_oldest [] h = absurd (omega arith)
 has_oldest (v ∷ vs) h = (v, refl)
 
 -- a host without a memory of others' owes nothing on it
-pub no_memory : {A : Type 0} (r : Result A Refusal) → if_accepted r (Unit {0})
+pub no_memory : {A : Type 0} (r : Result A Refusal) → IfAccepted r (Unit {0})
 no_memory (Ok _) = tt
 no_memory (Err _) = tt
 
 -- an accepted call owes nothing on refusals
-pub unrefused : {A : Type 0} (r : Result A Refusal) (P : Type 0) (v : A) → r ≡ Ok v → if_refused r P
-unrefused r P v e = subst (λ x. if_refused x P) (sym e) tt
+pub unrefused : {A : Type 0} (r : Result A Refusal) (P : Type 0) (v : A) → r ≡ Ok v → IfRefused r P
+unrefused r P v e = subst (λ x. IfRefused x P) (sym e) tt

@@ -25,13 +25,13 @@ on_ok (Ok _) x y = x
 on_ok (Err _) x y = y
 
 -- what holds of an accepted call, and of a refused one
-abbrev pub if_accepted : {A : Type 0} → Result A Refusal → Type 0 → Type 0
-if_accepted (Ok _) P = P
-if_accepted (Err _) P = Unit {0}
+abbrev pub IfAccepted : {A : Type 0} → Result A Refusal → Type 0 → Type 0
+IfAccepted (Ok _) P = P
+IfAccepted (Err _) P = Unit {0}
 
-abbrev pub if_refused : {A : Type 0} → Result A Refusal → Type 0 → Type 0
-if_refused (Ok _) P = Unit {0}
-if_refused (Err _) P = P
+abbrev pub IfRefused : {A : Type 0} → Result A Refusal → Type 0 → Type 0
+IfRefused (Ok _) P = Unit {0}
+IfRefused (Err _) P = P
 
 -- a channel that there is not is refused
 abbrev pub of_channel : {A : Type 0} → Channels → ℕ → Result A Refusal → Result A Refusal

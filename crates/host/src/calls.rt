@@ -1,6 +1,6 @@
 // What a host is.
 ghost use Rattle.std.specs.Prelude.{◌≡◌, ℕ, ℤ};
-ghost use Rattle.host.specs.Channels.{Channels, Lawful, after_put, after_take, if_accepted, if_refused, lacking, put_answer, stored, take_answer};
+ghost use Rattle.host.specs.Channels.{Channels, Lawful, after_put, after_take, IfAccepted, IfRefused, lacking, put_answer, stored, take_answer};
 
 use refusal::Refusal;
 
@@ -35,13 +35,13 @@ pub trait Host {
     fn put(&mut self, channel: u8, value: i32) -> Result<(), Refusal>
         ensures answer { result ≡ put_answer (channels self.old) channel }
         ensures after { channels self.new ≡ after_put (channels self.old) channel value }
-        ensures memory { if_accepted result (puts self.old channel value self.new) }
-        ensures refused { if_refused result (self.new ≡ self.old) };
+        ensures memory { IfAccepted result (puts self.old channel value self.new) }
+        ensures refused { IfRefused result (self.new ≡ self.old) };
 
     // The oldest value of the channel comes out.
     fn take(&mut self, channel: u8) -> Result<i32, Refusal>
         ensures answer { result ≡ take_answer (channels self.old) channel }
         ensures after { channels self.new ≡ after_take (channels self.old) channel }
-        ensures memory { if_accepted result (takes self.old channel self.new) }
-        ensures refused { if_refused result (self.new ≡ self.old) };
+        ensures memory { IfAccepted result (takes self.old channel self.new) }
+        ensures refused { IfRefused result (self.new ≡ self.old) };
 }

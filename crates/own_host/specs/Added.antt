@@ -21,8 +21,8 @@ abbrev pub Fit : ℕ → Type 0
 Fit k = (1 ≤ k) × (k ≤ 65535)
 
 -- what is answered where there are n channels and one of capacity k is asked for; memory may always be short
-abbrev pub told : ℕ → ℕ → Result (Unit {0}) Unmade → Type 0
-told n k (Ok _) = (n < 16) × Fit k
-told n k (Err TooMany) = 16 ≤ n
-told n k (Err Capacity) = (n < 16) × ((k ≡ 0) ⊎ (65535 < k))
-told n k (Err Memory) = (n < 16) × Fit k
+abbrev pub Told : ℕ → ℕ → Result (Unit {0}) Unmade → Type 0
+Told n k (Ok _) = (n < 16) × Fit k
+Told n k (Err TooMany) = 16 ≤ n
+Told n k (Err Capacity) = (n < 16) × ((k ≡ 0) ⊎ (65535 < k))
+Told n k (Err Memory) = (n < 16) × Fit k

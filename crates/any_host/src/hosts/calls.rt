@@ -1,6 +1,6 @@
 // Each call is the call of the host inside.
 ghost use Rattle.std.specs.Prelude.{◌≡◌};
-ghost use Rattle.any_host.specs.Cases.{any_channels, any_lawful, any_puts, any_takes};
+ghost use Rattle.any_host.specs.Cases.{any_channels, any_lawful, AnyPuts, AnyTakes};
 
 use crate::hosts::AnyHost;
 use host::calls::Host;
@@ -11,9 +11,9 @@ impl<H: Host> Host for AnyHost<H> {
 
     ghost lawful = { λ a. any_lawful H.Host.channels H.Host.lawful a };
 
-    ghost puts = { λ a c v b. any_puts H.Host.puts a c v b };
+    ghost puts = { λ a c v b. AnyPuts H.Host.puts a c v b };
 
-    ghost takes = { λ a c b. any_takes H.Host.takes a c b };
+    ghost takes = { λ a c b. AnyTakes H.Host.takes a c b };
 
     fn count(&self) -> u8 {
         match self {

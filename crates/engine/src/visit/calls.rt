@@ -2,7 +2,7 @@
 ghost use Rattle.std.specs.Prelude.{◌≡◌, ℕ, []};
 ghost use Rattle.copies.specs.Held.{copies_of, steps_of, tapes_of};
 ghost use Rattle.meaning.specs.Copies.{first};
-ghost use Rattle.host.specs.Channels.{if_accepted, if_refused};
+ghost use Rattle.host.specs.Channels.{IfAccepted, IfRefused};
 ghost use Rattle.meaning.specs.Answers.{ask as asks, collect as collects, collected_by, fed_by, feed as feeds, told_by, turn as turns, turned_by};
 ghost use Rattle.meaning.specs.Promises.{Promises};
 ghost use Rattle.meaning.specs.Visits.{framed, opened};
@@ -72,8 +72,8 @@ impl<R: Regime, H: Host> Visit<R, H> {
     // The world puts a value to an in channel.
     pub fn feed(&mut self, channel: u8, value: i32) -> Result<(), Refusal>
         ensures served { Serves R.Regime.order H.Host.channels self.old (feeds channel value) self.new (fed_by result) }
-        ensures refused { if_refused result (self.new ≡ self.old) }
-        ensures memory { if_accepted result (H.Host.puts self.old.host channel value self.new.host) }
+        ensures refused { IfRefused result (self.new ≡ self.old) }
+        ensures memory { IfAccepted result (H.Host.puts self.old.host channel value self.new.host) }
     {
         self.fit()?;
         if channel as usize >= self.script.channel_count {
@@ -91,8 +91,8 @@ impl<R: Regime, H: Host> Visit<R, H> {
     // The world takes a value from an out channel.
     pub fn collect(&mut self, channel: u8) -> Result<i32, Refusal>
         ensures served { Serves R.Regime.order H.Host.channels self.old (collects channel) self.new (collected_by result) }
-        ensures refused { if_refused result (self.new ≡ self.old) }
-        ensures memory { if_accepted result (H.Host.takes self.old.host channel self.new.host) }
+        ensures refused { IfRefused result (self.new ≡ self.old) }
+        ensures memory { IfAccepted result (H.Host.takes self.old.host channel self.new.host) }
     {
         self.fit()?;
         if channel as usize >= self.script.channel_count {
@@ -110,7 +110,7 @@ impl<R: Regime, H: Host> Visit<R, H> {
     // One turn: the copy that is picked does one instruction, or nobody moves.
     pub fn turn(&mut self) -> Result<Turned, Refusal>
         ensures served { Serves R.Regime.order H.Host.channels self.old turns self.new (turned_by result) }
-        ensures refused { if_refused result (self.new ≡ self.old) }
+        ensures refused { IfRefused result (self.new ≡ self.old) }
         ensures memory { TurnMemory H.Host.puts H.Host.takes self.old.host result self.new.host }
     {
         self.fit()?;

@@ -1,6 +1,6 @@
 // What a visit does with its host.
 ghost use Rattle.std.specs.Prelude.{◌≡◌, ◌<◌, true, false, is_some, Some, None, MatchResult};
-ghost use Rattle.host.specs.Channels.{if_accepted};
+ghost use Rattle.host.specs.Channels.{IfAccepted};
 ghost use Rattle.meaning.specs.Copies.{nth};
 ghost use Rattle.meaning.specs.Visits.{has_space, put_on, take_off, with_lists};
 ghost use Rattle.refusal.specs.declared.Refusal.TheVariants.{Empty, Full};
@@ -21,7 +21,7 @@ impl<R: Regime, H: Host> Visit<R, H> {
         ensures turns { self.new.turns ≡ self.old.turns }
         ensures copies { self.new.copies ≡ self.old.copies }
         ensures tapes { self.new.tapes ≡ self.old.tapes }
-        ensures memory { if_accepted result (H.Host.puts self.old.host channel value self.new.host) }
+        ensures memory { IfAccepted result (H.Host.puts self.old.host channel value self.new.host) }
     {
         match self.host.put(channel, value) {
             Ok(()) => Ok(()),
@@ -38,7 +38,7 @@ impl<R: Regime, H: Host> Visit<R, H> {
         ensures turns { self.new.turns ≡ self.old.turns }
         ensures copies { self.new.copies ≡ self.old.copies }
         ensures tapes { self.new.tapes ≡ self.old.tapes }
-        ensures memory { if_accepted result (H.Host.takes self.old.host channel self.new.host) }
+        ensures memory { IfAccepted result (H.Host.takes self.old.host channel self.new.host) }
     {
         match self.host.take(channel) {
             Ok(value) => Ok(value),

@@ -1,6 +1,6 @@
 // How a host gets its channels.
 ghost use Rattle.std.specs.Prelude.{◌≡◌, ◌<◌, length};
-ghost use Rattle.own_host.specs.Added.{after_add, no_channels, told};
+ghost use Rattle.own_host.specs.Added.{after_add, no_channels, Told};
 ghost use Rattle.own_host.specs.Lanes.{channels_of, contents, room};
 
 use super::{HeapHost, Lane};
@@ -30,7 +30,7 @@ impl HeapHost {
     fn append(&mut self, lane: Lane) -> Result<(), Unmade>
         requires { length self.old.lanes.items < 16 }
         ensures after { channels_of self.new ≡ after_add (channels_of self.old) (room lane) (contents lane) result }
-        ensures why { told 0 1 result }
+        ensures why { Told 0 1 result }
     {
         if self.lanes.push(lane).is_err() {
             return Err(Unmade::Memory);
@@ -40,7 +40,7 @@ impl HeapHost {
 
     // One channel more, which begins with these values, even with more than the capacity allows.
     pub fn add(&mut self, heap: Global, capacity: usize, values: &[i32]) -> Result<(), Unmade>
-        ensures answer { told (channels_of self.old).count capacity result }
+        ensures answer { Told (channels_of self.old).count capacity result }
         ensures after { channels_of self.new ≡ after_add (channels_of self.old) capacity values.now result }
     {
         if self.lanes.len() >= 16 {

@@ -1,7 +1,7 @@
 // The calls of a plain run.
 ghost use Rattle.std.specs.Prelude.{◌≡◌, ℕ, ◌<◌, true, false, [], length};
 ghost use Rattle.copies.specs.Held.{copy_of};
-ghost use Rattle.host.specs.Channels.{if_refused, on_ok};
+ghost use Rattle.host.specs.Channels.{IfRefused, on_ok};
 ghost use Rattle.meaning.specs.Copies.{first, with_at};
 ghost use Rattle.meaning.specs.Programs.{program};
 ghost use Rattle.meaning.specs.Visits.{put_on};
@@ -74,7 +74,7 @@ impl PlainRun {
         ensures script { self.new.script ≡ self.old.script }
         ensures lists { self.new.lists ≡ self.old.lists }
         ensures copy { self.new.copy ≡ self.old.copy }
-        ensures refused { if_refused result (self.new ≡ self.old) }
+        ensures refused { IfRefused result (self.new ≡ self.old) }
     {
         self.judge(channel)?;
         self.mark(channel);
@@ -88,7 +88,7 @@ impl PlainRun {
         ensures lists { lists_of self.new ≡ on_ok result (put_on channel value (lists_of self.old)) (lists_of self.old) }
         ensures script { self.new.script ≡ self.old.script }
         ensures copy { self.new.copy ≡ self.old.copy }
-        ensures refused { if_refused result (self.new ≡ self.old) }
+        ensures refused { IfRefused result (self.new ≡ self.old) }
     {
         self.judge(channel)?;
         if !self.lists.has_room(channel) {
