@@ -26,8 +26,11 @@ IMPORT = re.compile(r"^\s*(?:ghost\s+)?(?:pub\s+)?use\s+([\w.'+-]+?)\.\{([^}]*)\
 LEMMAS = {n: n.replace("-", "_") + "_lem" for n in ("from-channels", "from-count", "from-instructions", "from-width", "read-record")}
 # Facts that were written as functions are.
 LEMMAS.update({"if-accepted": "IfAccepted", "if-refused": "IfRefused", "any-puts": "AnyPuts", "any-takes": "AnyTakes"})
-# A lemma that the port's own scripts respelled, and facts of one crate.
+# A lemma that the port's own scripts respelled, a function that they gave a tactic's name, and facts of one crate.
 IN_FILES = {
+    "crates/page/specs/Ladder.antt": {"first_of": "first_some"},
+    "crates/page/specs/Lowest.antt": {"first_of": "first_some"},
+    "crates/verb/specs/Verbs.antt": {"first_of": "first_some"},
     "crates/format/proofs/Files.antt": {"from_tail": "from_tail_lem"},
     "crates/own_host/specs/Added.antt": {"told": "Told"},
     "crates/own_host/src/lanes/build.rt": {"told": "Told"},

@@ -3,14 +3,14 @@ use Rattle.std.specs.Prelude.{◌≡◌, ℕ, zero, suc, ◌<◌, ◌≤◌, tru
 use Rattle.regime.specs.Order.{Order, Levels}
 
 -- the first answer that there is
-abbrev pub first_of : Option ℕ → Option ℕ → Option ℕ
-first_of (Some a) o = Some a
-first_of None o = o
+abbrev pub first_some : Option ℕ → Option ℕ → Option ℕ
+first_some (Some a) o = Some a
+first_some None o = o
 
 -- the lowest member below n
 abbrev pub lowest : ℕ → Levels → Option ℕ
 lowest zero s = None
-lowest (suc n) s = first_of (lowest n s) (cond (s n) (Some n) None)
+lowest (suc n) s = first_some (lowest n s) (cond (s n) (Some n) None)
 
 -- an answer that is the lowest member below n: ready, and none below it; or nobody, where none is
 abbrev pub Lowest : ℕ → Levels → Option ℕ → Type 0

@@ -3,7 +3,7 @@ use Rattle.std.specs.Prelude.{◌≡◌, ℕ, zero, suc, ◌<◌, ◌≤◌, Boo
 use Rattle.std.proofs.Common.{sym, ap, subst, ⊎_elim, arith}
 use Rattle.std.proofs.lemmas.Bool.{cases_lt, both_ways}
 use Rattle.regime.specs.Order.{Levels}
-use Rattle.page.specs.Ladder.{Lowest, lowest, first_of}
+use Rattle.page.specs.Ladder.{Lowest, lowest, first_some}
 
 -- nobody below n is ready
 pub lowest_none : (n : ℕ) (s : Levels) → ((a : ℕ) → a < n → s a ≡ false) → lowest n s ≡ None
@@ -24,7 +24,7 @@ lowest_found (suc n) s a l r h =
     (cases_lt a n)
 
 -- one level more
-one_more : (n : ℕ) (s : Levels) (o : Option ℕ) (b : Bool) → Lowest n s o → s n ≡ b → Lowest (suc n) s (first_of o (cond b (Some n) None))
+one_more : (n : ℕ) (s : Levels) (o : Option ℕ) (b : Bool) → Lowest n s o → s n ≡ b → Lowest (suc n) s (first_some o (cond b (Some n) None))
 one_more n s (Some a) b f e = (omega (arith, f.0), f.1, f.2)
 one_more n s None true f e = (omega arith, e, f)
 one_more n s None false f e = λ a l. ⊎_elim (λ (k : a < n). f a k) (λ (k : n ≤ a). let q : a ≡ n = omega arith in rw q e) (cases_lt a n)

@@ -49,14 +49,14 @@ part_verb_of w =
     (cond (bytes_eq w (codes "space")) (Some verb.Space) None))))))))
 
 -- the first of three that there is
-abbrev pub first_of : Option VisitVerb → Option Verb → Option Verb → Option Verb
-first_of (Some v) _ _ = Some (verb.Visit v)
-first_of None (Some v) _ = Some v
-first_of None None v = v
+abbrev pub first_some : Option VisitVerb → Option Verb → Option Verb → Option Verb
+first_some (Some v) _ _ = Some (verb.Visit v)
+first_some None (Some v) _ = Some v
+first_some None None v = v
 
 -- all commands
 abbrev pub verb_of : List ℕ → Option Verb
-verb_of w = first_of (visit_verb_of w) (file_verb_of w) (part_verb_of w)
+verb_of w = first_some (visit_verb_of w) (file_verb_of w) (part_verb_of w)
 
 -- the kinds of regime
 abbrev pub shape_of : List ℕ → Result Shape LineError
