@@ -8,13 +8,13 @@ runs=${1:-5}
 out=target/bench
 mkdir -p "$out"
 if [ "${BUILD:-yes}" = yes ]; then
-    rt check speed > "$out/check.log" || { tail -3 "$out/check.log"; exit 1; }
+    (cd crates/speed && rt run) > "$out/check.log" 2>&1 || { tail -3 "$out/check.log"; exit 1; }
 fi
 rustc --edition 2024 -C opt-level=3 -o "$out/visit" bench/visit.rs
 rm -f "$out"/*.times
 i=0
 while [ "$i" -lt "$runs" ]; do
-    target/bin/speed full > "$out/speed.out" 2>> "$out/speed.times"
+    crates/speed/out/speed full > "$out/speed.out" 2>> "$out/speed.times"
     "$out/visit" full > "$out/visit.out" 2>> "$out/visit.times"
     i=$((i + 1))
 done
