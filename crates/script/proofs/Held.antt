@@ -1,33 +1,35 @@
 -- What a script holds: accepted models, each by one value. Assumes nothing.
-use Rattle.std.proofs.Common.{◌≡◌, ℕ, ◌<◌, true, ltb, List, length, get_or, take, sym, refl, ap, ◌∙◌, subst, arith}
+use Rattle.std.proofs.Common.{◌≡◌, ℕ, ◌<◌, true, false, ◌&&◌, ltb, List, length, get_or, take, sym, refl, ap, ◌∙◌, subst, ⊎_elim, arith}
 use Rattle.std.proofs.lemmas.List.{get_or-take, length-take-le}
-use Rattle.std.proofs.lemmas.Bool.{and_parts, and_from, ltb-true}
+use Rattle.std.proofs.lemmas.Bool.{cases_lt, le-ltb}
 use Rattle.script.specs.declared.parts.Direction.{Direction}
 use Rattle.script.specs.declared.parts.Direction.TheVariants.{In, Out}
 use Rattle.script.specs.declared.parts.Channel.{Channel}
 use Rattle.script.specs.declared.parts.Instruction.{Instruction}
 use Rattle.script.specs.declared.parts.Instruction.TheVariants.{Skip, Set, Compute, Jump, Input, Output, Stop}
 use Rattle.script.specs.declared.accepted.Script.{Script}
-use Rattle.script.specs.EqualScripts.{one_value}
+use Rattle.script.proofs.Values.{one_value}
 use Rattle.script.specs.Laws.{blank, same, directed, sound, Below, Sound}
 use Rattle.script.specs.Model.{Model, model_of, EveryScriptAccepted, SameScript}
 use Rattle.script.proofs.Tables.{same_table}
 
--- a channel among the first c is the same in the table and in its used part
-pub directed_used : (d : Direction) (table : List Channel) (c k : ℕ) → directed d table c k ≡ true → directed d (take c table) c k ≡ true
-directed_used d table c k e =
-    let p = and_parts (ltb k c) _ e in
-    and_from _ _ p.0 (subst (λ (x : Channel). same d x.direction ≡ true) (sym (get_or-take c table k blank (ltb-true _ _ p.0))) p.1)
+-- a channel among the first c is the same in a table and in its front
+directed_front : (d : Direction) (table : List Channel) (c k : ℕ) → directed d (take c table) c k ≡ directed d table c k
+directed_front d table c k =
+    ⊎_elim
+    (λ lt. ap (λ (x : Channel). ltb k c && same d x.direction) (get_or-take c table k blank lt))
+    (λ le. let no : ltb k c ≡ false = le-ltb _ _ le in simp no)
+    (cases_lt k c)
 
 -- and so is the law of an instruction
-pub sound_used : (table : List Channel) (c m : ℕ) (i : Instruction) → sound table c m i ≡ true → sound (take c table) c m i ≡ true
-sound_used table c m Skip e = refl
-sound_used table c m (Set target number) e = e
-sound_used table c m (Compute operation target first second) e = e
-sound_used table c m (Jump first place) e = e
-sound_used table c m (Input target channel) e = let p = and_parts (ltb target 16) _ e in and_from _ _ p.0 (directed_used In table c channel p.1)
-sound_used table c m (Output first channel) e = let p = and_parts (ltb first 16) _ e in and_from _ _ p.0 (directed_used Out table c channel p.1)
-sound_used table c m Stop e = refl
+sound_front : (table : List Channel) (c m : ℕ) (i : Instruction) → sound (take c table) c m i ≡ sound table c m i
+sound_front table c m Skip = refl
+sound_front table c m (Set target number) = refl
+sound_front table c m (Compute operation target first second) = refl
+sound_front table c m (Jump first place) = refl
+sound_front table c m (Input target channel) = ap (λ b. ltb target 16 && b) (directed_front In table c channel)
+sound_front table c m (Output first channel) = ap (λ b. ltb first 16 && b) (directed_front Out table c channel)
+sound_front table c m Stop = refl
 
 -- how many channels and instructions a script holds
 pub channels_held : (s : Script) → length (model_of s).channels ≡ s.channel_count
@@ -52,7 +54,7 @@ every_script_accepted s =
           subst (λ (x : Channel). x.level < s.levels) (sym (get_or-take c s.channels k blank lt')) (s.below k lt');
       sound = λ k lt.
           let lt' : k < m = omega arith in
-          let here = sound_used s.channels c m (get_or s.instructions k Skip) (s.sound k lt') in
+          let here = sound_front s.channels c m (get_or s.instructions k Skip) ∙ s.sound k lt' in
           let there = subst (λ (i : Instruction). sound cs c m i ≡ true) (sym (get_or-take m s.instructions k Skip lt')) here in
           subst (λ j. sound cs (length cs) j (get_or is k Skip) ≡ true) (sym em) (subst (λ j. sound cs j m (get_or is k Skip) ≡ true) (sym ec) there);
     }
@@ -77,21 +79,7 @@ pub below_table : (n : ℕ) (table xs : List Channel) → take (length xs) table
 below_table n table xs e h k lt =
     subst (λ (x : Channel). x.level < n) (ap (λ l. get_or l k blank) (sym e) ∙ get_or-take (length xs) table k blank lt) (h k lt)
 
-directed_table : (d : Direction) (table : List Channel) (c k : ℕ) → directed d (take c table) c k ≡ true → directed d table c k ≡ true
-directed_table d table c k e =
-    let p = and_parts (ltb k c) _ e in
-    and_from _ _ p.0 (subst (λ (x : Channel). same d x.direction ≡ true) (get_or-take c table k blank (ltb-true _ _ p.0)) p.1)
-
-pub sound_table : (table : List Channel) (c m : ℕ) (i : Instruction) → sound (take c table) c m i ≡ true → sound table c m i ≡ true
-sound_table table c m Skip e = refl
-sound_table table c m (Set target number) e = e
-sound_table table c m (Compute operation target first second) e = e
-sound_table table c m (Jump first place) e = e
-sound_table table c m (Input target channel) e = let p = and_parts (ltb target 16) _ e in and_from _ _ p.0 (directed_table In table c channel p.1)
-sound_table table c m (Output first channel) e = let p = and_parts (ltb first 16) _ e in and_from _ _ p.0 (directed_table Out table c channel p.1)
-sound_table table c m Stop e = refl
-
 pub all_sound_table : (table cs : List Channel) (is-table is : List Instruction) → take (length cs) table ≡ cs → take (length is) is-table ≡ is → Sound cs (length cs) (length is) is (length is) → Sound table (length cs) (length is) is-table (length is)
 all_sound_table table cs is-table is ec ei h k lt =
     let here = subst (λ (i : Instruction). sound cs (length cs) (length is) i ≡ true) (ap (λ l. get_or l k Skip) (sym ei) ∙ get_or-take (length is) is-table k Skip lt) (h k lt) in
-    sound_table table (length cs) (length is) (get_or is-table k Skip) (subst (λ l. sound l (length cs) (length is) (get_or is-table k Skip) ≡ true) (sym ec) here)
+    sym (sound_front table (length cs) (length is) (get_or is-table k Skip)) ∙ ap (λ l. sound l (length cs) (length is) (get_or is-table k Skip)) ec ∙ here

@@ -1,2 +1,3 @@
+pub mod Values
 pub mod Tables
 pub mod Held

@@ -1,6 +1,5 @@
 pub mod Flaws
+pub mod Equality
 pub mod Kinds
 pub mod Laws
 pub mod Model
-pub mod Equal
-pub mod EqualScripts

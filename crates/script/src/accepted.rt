@@ -6,8 +6,9 @@ ghost use Rattle.script.specs.declared.parts.Instruction.TheVariants.{Skip};
 use crate::parts::{Channel, Instruction};
 
 // The first `channel_count` channels and the first `instruction_count` instructions count. The slots after them
-// hold the blank record, so that two scripts are equal exactly where they are the same value.
-#[derive(Clone, Copy)]
+// hold the blank record, so that two scripts are equal exactly where they are the same value. The tables are arrays
+// with a count, and no `Vec`: a script is held in fixed memory, copied as it stands, and nothing that uses it allocates.
+#[derive(Clone, Copy, PartialEq, Eq)]
 pub struct Script {
     pub levels: u8,
     pub channel_count: usize,

@@ -11,11 +11,12 @@ use crate::parts::{Channel, Direction, Instruction};
 use refusal::{Flaw, Part, Refusal};
 
 // Is `k` one of the channels, and of that direction?
-fn is_directed(channels: &[Channel], k: u8, direction: Direction) -> bool
+pub fn is_directed(channels: &[Channel], k: usize, direction: Direction) -> bool
     ensures { result ≡ directed direction channels.now (length channels.now) k }
 {
-    let k = usize::from(k);
-    k < channels.len() && channels[k].direction == direction
+    channels
+        .get(k)
+        .is_some_and(|channel| channel.direction == direction)
 }
 
 // Does the instruction keep its law, in a script of `count` instructions?
@@ -33,62 +34,65 @@ fn is_sound(channels: &[Channel], count: usize, instruction: Instruction) -> boo
         } => target < 16 && first < 16 && second < 16,
         Instruction::Jump { first, place } => first < 16 && usize::from(place) <= count,
         Instruction::Input { target, channel } => target < 16
-            && is_directed(channels, channel, Direction::In),
+            && is_directed(channels, usize::from(channel), Direction::In),
         Instruction::Output { first, channel } => first < 16
-            && is_directed(channels, channel, Direction::Out),
+            && is_directed(channels, usize::from(channel), Direction::Out),
+    }
+}
+
+// The flaw, unless the law holds.
+fn refuse_unless(holds: bool, refusal: Refusal, part: Part) -> Result<(), Flaw>
+    ensures { MatchResult result (λ _. holds ≡ true) (λ f. (f ≡ flaw refusal part) × (holds ≡ false)) }
+{
+    if holds {
+        Ok(())
+    } else {
+        Err(Flaw { refusal, part })
     }
 }
 
 fn judge_head(levels: u8, channels: usize) -> Result<(), Flaw>
     ensures { MatchResult result (λ _. Headed levels channels) (λ f. (f ≡ flaw why.Head part.Head) × (Headed levels channels → ⊥)) }
 {
-    if levels < 1 || levels > 16 || channels > 16 {
-        return Err(Flaw {
-            refusal: Refusal::Head,
-            part: Part::Head,
-        });
-    }
-    Ok(())
+    refuse_unless(
+        matches!(levels, 1..=16) && channels <= 16,
+        Refusal::Head,
+        Part::Head,
+    )
 }
 
 fn judge_channels(levels: u8, channels: &[Channel]) -> Result<(), Flaw>
     ensures { MatchResult result (λ _. Below levels channels.now (length channels.now)) (λ f. ((i : ℕ) × (f ≡ flaw why.Range (part.Channel i)) × FirstHigh levels channels.now i)) }
 {
-    for (i, channel) in channels.iter().enumerate() {
-        if channel.level >= levels {
-            return Err(Flaw {
-                refusal: Refusal::Range,
-                part: Part::Channel(i),
-            });
-        }
+    match channels.iter().position(|channel| channel.level >= levels) {
+        Some(i) => Err(Flaw {
+            refusal: Refusal::Range,
+            part: Part::Channel(i),
+        }),
+        None => Ok(()),
     }
-    Ok(())
 }
 
 fn judge_count(count: usize) -> Result<(), Flaw>
     ensures { MatchResult result (λ _. Counted count) (λ f. (f ≡ flaw why.Head part.Count) × (Counted count → ⊥)) }
 {
-    if count < 1 || count > 256 {
-        return Err(Flaw {
-            refusal: Refusal::Head,
-            part: Part::Count,
-        });
-    }
-    Ok(())
+    refuse_unless(matches!(count, 1..=256), Refusal::Head, Part::Count)
 }
 
 fn judge_instructions(channels: &[Channel], instructions: &[Instruction]) -> Result<(), Flaw>
     ensures { MatchResult result (λ _. Sound channels.now (length channels.now) (length instructions.now) instructions.now (length instructions.now)) (λ f. ((i : ℕ) × (f ≡ flaw why.Range (part.Instruction i)) × FirstUnsound channels.now instructions.now i)) }
 {
-    for (i, instruction) in instructions.iter().enumerate() {
-        if !is_sound(channels, instructions.len(), *instruction) {
-            return Err(Flaw {
-                refusal: Refusal::Range,
-                part: Part::Instruction(i),
-            });
-        }
+    let count = instructions.len();
+    match instructions
+        .iter()
+        .position(|instruction| !is_sound(channels, count, *instruction))
+    {
+        Some(i) => Err(Flaw {
+            refusal: Refusal::Range,
+            part: Part::Instruction(i),
+        }),
+        None => Ok(()),
     }
-    Ok(())
 }
 
 // A table that begins with the items and is blank past them.
@@ -99,9 +103,7 @@ fn filled<T: Copy, const N: usize>(blank: T, items: &[T]) -> [T; N]
     ensures unused { Blank blank (length items.now) result }
 {
     let mut table = [blank; N];
-    for (i, item) in items.iter().enumerate() {
-        table[i] = *item;
-    }
+    table[..items.len()].copy_from_slice(items);
     table
 }
 

@@ -1,5 +1,9 @@
 // What holds of every script.
+ghost use Rattle.script.specs.Equality.{TellsApart};
 ghost use Rattle.script.specs.Model.{EveryScriptAccepted, SameScript};
+
+use crate::accepted::Script;
+use crate::parts::{Channel, Instruction};
 
 // Every script holds an accepted model.
 pub fn every_script_is_accepted()
@@ -10,3 +14,21 @@ pub fn every_script_is_accepted()
 pub fn same_script_is_one_value()
     ensures { SameScript }
 {}
+
+// Two channels are equal exactly where they are one value.
+pub fn equal_channels_are_one_value()
+    ensures { TellsApart ⟦<Channel as PartialEq>⟧.eq }
+{}
+
+// And so are two instructions.
+pub fn equal_instructions_are_one_value()
+    ensures { TellsApart ⟦<Instruction as PartialEq>⟧.eq }
+{}
+
+// And so are two scripts, since their channels and instructions are.
+pub fn equal_scripts_are_one_value()
+    ensures { TellsApart ⟦<Script as PartialEq>⟧.eq }
+{
+    equal_channels_are_one_value();
+    equal_instructions_are_one_value();
+}

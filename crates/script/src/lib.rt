@@ -5,4 +5,3 @@ pub mod accepted;
 pub mod build;
 pub mod laws;
 pub mod parts;
-pub mod same;

@@ -1,14 +1,12 @@
 // What a script is made of: channels and instructions.
-ghost use Rattle.std.specs.Prelude.{◌≡◌, pos, Decides};
+ghost use Rattle.std.specs.Prelude.{◌≡◌};
 ghost use Rattle.script.specs.Kinds.{code_of, kind_of, fields_of};
-ghost use Rattle.script.specs.Equal.{same_channel, same_channel_decides, same_instruction, same_instruction_decides};
-ghost use Rattle.std.specs.Cmp as Keys;
 
-// Whether values come in by a channel or go out by it.
+// Whether values come in by a channel or go out by it, as a file numbers it.
 #[derive(Clone, Copy, PartialEq, Eq, Debug)]
 pub enum Direction {
-    In,
-    Out,
+    In = 0,
+    Out = 1,
 }
 
 impl Direction {
@@ -16,29 +14,26 @@ impl Direction {
     pub fn code(self) -> u8
         ensures { result ≡ code_of self }
     {
-        match self {
-            Direction::In => 0,
-            Direction::Out => 1,
-        }
+        self as u8
     }
 }
 
-#[derive(Clone, Copy, Debug)]
+#[derive(Clone, Copy, PartialEq, Eq, Debug)]
 pub struct Channel {
     pub direction: Direction,
     pub level: u8,
 }
 
-// What is computed from two registers.
+// What is computed from two registers, as a file numbers the instruction kinds.
 #[derive(Clone, Copy, PartialEq, Eq, Debug)]
 pub enum Operation {
-    Add,
-    Subtract,
-    Multiply,
-    Quotient,
-    Remainder,
-    Less,
-    Same,
+    Add = 2,
+    Subtract = 3,
+    Multiply = 4,
+    Quotient = 5,
+    Remainder = 6,
+    Less = 7,
+    Same = 8,
 }
 
 impl Operation {
@@ -46,20 +41,12 @@ impl Operation {
     pub fn kind(self) -> u8
         ensures { result ≡ kind_of self }
     {
-        match self {
-            Operation::Add => 2,
-            Operation::Subtract => 3,
-            Operation::Multiply => 4,
-            Operation::Quotient => 5,
-            Operation::Remainder => 6,
-            Operation::Less => 7,
-            Operation::Same => 8,
-        }
+        self as u8
     }
 }
 
 // One instruction. A field that its kind does not use does not exist.
-#[derive(Clone, Copy, Debug)]
+#[derive(Clone, Copy, PartialEq, Eq, Debug)]
 pub enum Instruction {
     Skip,
     Set {
@@ -87,8 +74,9 @@ pub enum Instruction {
     Stop,
 }
 
-// The seven fields that a file has for an instruction, 0 where its kind does not use one.
-#[derive(Clone, Copy, PartialEq, Eq, Debug)]
+// The seven fields that a file has for an instruction, 0 where its kind does not use one. They stay numbers, also
+// the kind: this is what a file holds, and `Instruction` is what it means.
+#[derive(Clone, Copy, PartialEq, Eq, Debug, Default)]
 pub struct Fields {
     pub kind: u8,
     pub target: u8,
@@ -99,33 +87,17 @@ pub struct Fields {
     pub channel: u8,
 }
 
-impl Fields {
-    // No field but the kind.
-    fn of_kind(kind: u8) -> Self
-        ensures { result ≡ record { kind = kind; target = 0; first = 0; second = 0; number = pos 0; place = 0; channel = 0 } }
-    {
-        Fields {
-            kind,
-            target: 0,
-            first: 0,
-            second: 0,
-            number: 0,
-            place: 0,
-            channel: 0,
-        }
-    }
-}
-
 impl Instruction {
     pub fn fields(self) -> Fields
         ensures { result ≡ fields_of self }
     {
         match self {
-            Instruction::Skip => Fields::of_kind(0),
+            Instruction::Skip => Fields::default(),
             Instruction::Set { target, number } => Fields {
+                kind: 1,
                 target,
                 number,
-                ..Fields::of_kind(1)
+                ..Fields::default()
             },
             Instruction::Compute {
                 operation,
@@ -134,63 +106,35 @@ impl Instruction {
                 second,
             } => {
                 Fields {
+                    kind: operation.kind(),
                     target,
                     first,
                     second,
-                    ..Fields::of_kind(operation.kind())
+                    ..Fields::default()
                 }
             }
             Instruction::Jump { first, place } => Fields {
+                kind: 9,
                 first,
                 place,
-                ..Fields::of_kind(9)
+                ..Fields::default()
             },
             Instruction::Input { target, channel } => Fields {
+                kind: 10,
                 target,
                 channel,
-                ..Fields::of_kind(10)
+                ..Fields::default()
             },
             Instruction::Output { first, channel } => Fields {
+                kind: 11,
                 first,
                 channel,
-                ..Fields::of_kind(11)
+                ..Fields::default()
             },
-            Instruction::Stop => Fields::of_kind(12),
+            Instruction::Stop => Fields {
+                kind: 12,
+                ..Fields::default()
+            },
         }
     }
-}
-
-impl PartialEq for Channel {
-    ghost eq = { same_channel };
-
-    ghost laws = { Keys.partial_equiv_from_equiv (Keys.decided same_channel same_channel_decides) };
-
-    fn eq(&self, other: &Channel) -> bool
-        ensures value { result ≡ same_channel self.now other.now }
-        ensures same { Decides result (self.now ≡ other.now) }
-    {
-        self.direction == other.direction && self.level == other.level
-    }
-}
-
-impl Eq for Channel {
-    ghost laws = { Keys.decided same_channel same_channel_decides };
-}
-
-impl PartialEq for Instruction {
-    ghost eq = { same_instruction };
-
-    ghost laws = { Keys.partial_equiv_from_equiv (Keys.decided same_instruction same_instruction_decides) };
-
-    // An instruction is known by its fields.
-    fn eq(&self, other: &Instruction) -> bool
-        ensures value { result ≡ same_instruction self.now other.now }
-        ensures same { Decides result (self.now ≡ other.now) }
-    {
-        self.fields() == other.fields()
-    }
-}
-
-impl Eq for Instruction {
-    ghost laws = { Keys.decided same_instruction same_instruction_decides };
 }

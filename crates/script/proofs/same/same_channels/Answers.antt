@@ -1,6 +1,0 @@
-use Rattle.std.specs.Cmp.Lexicographic.{pointwise_decides}
-use Rattle.script.specs.Equal.{same_channel_decides}
-use Rattle.script.proofs.same.same_channels.Goals as goal
-
-pub returns : goal.returns
-returns c = rw c.eq.ensures (pointwise_decides same_channel_decides _ _)
