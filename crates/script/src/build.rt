@@ -11,11 +11,12 @@ use crate::parts::{Channel, Direction, Instruction};
 use refusal::{Flaw, Part, Refusal};
 
 // Is `k` one of the channels, and of that direction?
-fn is_directed(channels: &[Channel], k: u8, direction: Direction) -> bool
+pub fn is_directed(channels: &[Channel], k: usize, direction: Direction) -> bool
     ensures { result ≡ directed direction channels.now (length channels.now) k }
 {
-    let k = usize::from(k);
-    k < channels.len() && channels[k].direction == direction
+    channels
+        .get(k)
+        .is_some_and(|channel| channel.direction == direction)
 }
 
 // Does the instruction keep its law, in a script of `count` instructions?
@@ -33,9 +34,9 @@ fn is_sound(channels: &[Channel], count: usize, instruction: Instruction) -> boo
         } => target < 16 && first < 16 && second < 16,
         Instruction::Jump { first, place } => first < 16 && usize::from(place) <= count,
         Instruction::Input { target, channel } => target < 16
-            && is_directed(channels, channel, Direction::In),
+            && is_directed(channels, usize::from(channel), Direction::In),
         Instruction::Output { first, channel } => first < 16
-            && is_directed(channels, channel, Direction::Out),
+            && is_directed(channels, usize::from(channel), Direction::Out),
     }
 }
 
