@@ -2,22 +2,32 @@
 // through records to files.
 #![tactic(auto)]
 
-ghost use Rattle.std.specs.Prelude.{◌≡◌, ℕ, ◌^◌, ◌<◌, not, ◌&&◌, ◌||◌, ◌==◌, nat_lt};
+ghost use Rattle.std.specs.Prelude.{◌≡◌, ℕ, ◌^◌, ◌<◌, not, ◌&&◌, ◌||◌, map as each, ◌==◌, nat_lt};
 ghost use Rattle.refusal.specs.declared.Refusal.TheVariants.{Map, Range, Zero};
 ghost use Rattle.format.specs.Numbers.{bit};
 ghost use Rattle.format.specs.Reading.{read_field};
-ghost use Rattle.format.specs.Rules.{fault, is_there, value_of};
-ghost use Rattle.field.specs.Outcomes.{Cuts, Is, Reads, Ruled, Shrinks};
+ghost use Rattle.format.specs.Rules.{fault, is_there, not_zero, value_of};
+ghost use Rattle.field.specs.Outcomes.{Cuts, Is, Keeps, Reads, Ruled, Shrinks};
 
 use format::layout::{Field, Site};
 use refusal::{Fault, Refusal};
 
 // A field that is there is not 0.
-pub fn check_nonzero(site: Site, field: Field) -> Result<(), Fault>
+fn check_nonzero(site: Site, field: Field) -> Result<(), Fault>
     ensures { Ruled (not (is_there field && value_of field == 0)) (fault Zero field.byte site.part) result }
 {
     if field.value == Some(0) {
         return Err(site.fault(Refusal::Zero, field.byte));
+    }
+    Ok(())
+}
+
+// None of the fields of a record that are there is 0.
+pub fn check_zeros(site: Site, fields: &[Field]) -> Result<(), Fault>
+    ensures { Keeps (each (not_zero site) fields.now) result }
+{
+    for field in fields {
+        check_nonzero(site, *field)?;
     }
     Ok(())
 }
