@@ -2,53 +2,52 @@
 // through records to files.
 #![tactic(auto)]
 
-ghost use Rattle.std.specs.Prelude.{◌≡◌, ◌+◌, ◌-◌, ◌*◌, ◌<◌, true, false, not, ◌&&◌, ◌||◌, length, ◌==◌, nat_lt};
+ghost use Rattle.std.specs.Prelude.{◌≡◌, ℕ, ◌^◌, ◌<◌, not, ◌&&◌, ◌||◌, map as each, ◌==◌, nat_lt};
 ghost use Rattle.refusal.specs.declared.Refusal.TheVariants.{Map, Range, Zero};
 ghost use Rattle.format.specs.Numbers.{bit};
 ghost use Rattle.format.specs.Reading.{read_field};
-ghost use Rattle.format.specs.Rules.{fault};
-ghost use Rattle.field.specs.Outcomes.{Is, Reads, Ruled, Shrinks};
+ghost use Rattle.format.specs.Rules.{fault, is_there, not_zero, value_of};
+ghost use Rattle.field.specs.Outcomes.{Cuts, Is, Keeps, Reads, Ruled, Shrinks};
 
 use format::layout::{Field, Site};
 use refusal::{Fault, Refusal};
 
-// The fault of that refusal at that byte of the record.
-pub fn fault_at(site: Site, refusal: Refusal, byte: usize) -> Fault
-    ensures { result ≡ fault refusal byte site.part }
+// A field that is there is not 0.
+fn check_nonzero(site: Site, field: Field) -> Result<(), Fault>
+    ensures { Ruled (not (is_there field && value_of field == 0)) (fault Zero field.byte site.part) result }
 {
-    Fault {
-        refusal,
-        byte,
-        part: site.part,
+    if field.value == Some(0) {
+        return Err(site.fault(Refusal::Zero, field.byte));
     }
+    Ok(())
 }
 
-// A field that is there is not 0.
-pub fn check_nonzero(site: Site, field: Field) -> Result<(), Fault>
-    ensures { Ruled (not (field.present && field.value == 0)) (fault Zero field.byte site.part) result }
+// None of the fields of a record that are there is 0.
+pub fn check_zeros(site: Site, fields: &[Field]) -> Result<(), Fault>
+    ensures { Keeps (each (not_zero site) fields.now) result }
 {
-    if field.present && field.value == 0 {
-        return Err(fault_at(site, Refusal::Zero, field.byte));
+    for field in fields {
+        check_nonzero(site, *field)?;
     }
     Ok(())
 }
 
 // A field is below its bound.
 pub fn check_below(site: Site, field: Field, bound: u32) -> Result<(), Fault>
-    ensures { Ruled (nat_lt field.value bound) (fault Range field.byte site.part) result }
+    ensures { Ruled (nat_lt (value_of field) bound) (fault Range field.byte site.part) result }
 {
-    if field.value >= bound {
-        return Err(fault_at(site, Refusal::Range, field.byte));
+    if field.number() >= bound {
+        return Err(site.fault(Refusal::Range, field.byte));
     }
     Ok(())
 }
 
 // A field that is there is used.
 pub fn check_used(site: Site, field: Field, used: bool) -> Result<(), Fault>
-    ensures { Ruled (used || not field.present) (fault Map site.map_at site.part) result }
+    ensures { Ruled (used || not (is_there field)) (fault Map site.map_at site.part) result }
 {
-    if field.present && !used {
-        return Err(fault_at(site, Refusal::Map, site.map_at));
+    if field.value.is_some() && !used {
+        return Err(site.fault(Refusal::Map, site.map_at));
     }
     Ok(())
 }
@@ -57,88 +56,75 @@ pub fn check_used(site: Site, field: Field, used: bool) -> Result<(), Fault>
 pub fn has_bit(map: u8, k: u32) -> bool
     ensures { result ≡ bit k map }
 {
-    if k >= 8 {
-        return false;
-    }
-    (map >> k) % 2 == 1
+    map.checked_shr(k).unwrap_or(0) % 2 == 1
 }
 
-// A field that the map does not announce.
-fn absent(site: Site) -> Field
-    ensures { result ≡ record { present = false; byte = site.map_at; value = 0 } }
-{
-    Field {
-        present: false,
-        byte: site.map_at,
-        value: 0,
+// A number that a field holds, low byte first.
+pub trait Number {
+    // How many bytes it takes.
+    ghost width: { ℕ };
+
+    // The number at the front of `bytes` and what follows it; nothing where too few bytes are left.
+    fn cut(bytes: &[u8]) -> Option<(u32, &[u8])>
+        ensures { Cuts width bytes.now result };
+}
+
+impl Number for u8 {
+    ghost width = { 1 };
+
+    fn cut(bytes: &[u8]) -> Option<(u32, &[u8])> {
+        let [a, after @ ..] = bytes else {
+            return None;
+        };
+        Some((u32::from(*a), after))
     }
 }
 
-// A field with that value at the front of `rest`, which ends the file.
-fn field_at(site: Site, rest: &[u8], value: u32) -> Field
-    ensures { result ≡ record { present = true; byte = site.length - length rest.now; value = value } }
+impl Number for u16 {
+    ghost width = { 2 };
+
+    fn cut(bytes: &[u8]) -> Option<(u32, &[u8])> {
+        let [a, b, after @ ..] = bytes else {
+            return None;
+        };
+        Some((u32::from(u16::from_le_bytes([*a, *b])), after))
+    }
+}
+
+impl Number for u32 {
+    ghost width = { 4 };
+
+    fn cut(bytes: &[u8]) -> Option<(u32, &[u8])> {
+        let [a, b, c, d, after @ ..] = bytes else {
+            return None;
+        };
+        Some((u32::from_le_bytes([*a, *b, *c, *d]), after))
+    }
+}
+
+// The field at the front of `rest`, which ends the file, if the map announces it.
+pub fn read_field<'a, T: Number>(
+    site: Site,
+    announced: bool,
+    rest: &'a [u8],
+) -> Result<(Field, &'a [u8]), Fault>
+    ensures shrinks { Shrinks rest.now result }
+    ensures small { Reads result (λ f. value_of f < 256 ^ T.width) }
+    ensures is { Is (read_field site T.width announced rest.now) result }
 {
-    Field {
-        present: true,
+    if !announced {
+        let absent = Field {
+            byte: site.map_at,
+            value: None,
+        };
+        return Ok((absent, rest));
+    }
+    let Some((number, after)) = T::cut(rest) else {
+        return Err(site.fault(Refusal::Short, site.length));
+    };
+    let field = Field {
         byte: site.length.saturating_sub(rest.len()),
-        value,
-    }
-}
-
-// Two bytes as a number, low byte first.
-fn pair_value(low: u8, high: u8) -> u32
-    ensures { result ≡ low + high * 256 }
-{
-    u16::from_le_bytes([low, high]) as u32
-}
-
-// Four bytes as a number, low byte first.
-fn word_value(a: u8, b: u8, c: u8, d: u8) -> u32
-    ensures { result ≡ a + b * 256 + c * 65536 + d * 16777216 }
-{
-    u32::from_le_bytes([a, b, c, d])
-}
-
-// A field of one byte at the front of `rest`, if the map announces it.
-pub fn byte_field<'a>(site: Site, present: bool, rest: &'a [u8]) -> Result<(Field, &'a [u8]), Fault>
-    ensures shrinks { Shrinks rest.now result }
-    ensures small { Reads result (λ f. f.value < 256) }
-    ensures is { Is (read_field site 1 present rest.now) result }
-{
-    if !present {
-        return Ok((absent(site), rest));
-    }
-    let [b, after @ ..] = rest else {
-        return Err(fault_at(site, Refusal::Short, site.length));
+        value: Some(number),
     };
-    Ok((field_at(site, rest, *b as u32), after))
-}
-
-// A field of two bytes, low byte first.
-pub fn pair_field<'a>(site: Site, present: bool, rest: &'a [u8]) -> Result<(Field, &'a [u8]), Fault>
-    ensures shrinks { Shrinks rest.now result }
-    ensures small { Reads result (λ f. f.value < 65536) }
-    ensures is { Is (read_field site 2 present rest.now) result }
-{
-    if !present {
-        return Ok((absent(site), rest));
-    }
-    let [a, b, after @ ..] = rest else {
-        return Err(fault_at(site, Refusal::Short, site.length));
-    };
-    Ok((field_at(site, rest, pair_value(*a, *b)), after))
-}
-
-// A field of four bytes, low byte first.
-pub fn word_field<'a>(site: Site, present: bool, rest: &'a [u8]) -> Result<(Field, &'a [u8]), Fault>
-    ensures shrinks { Shrinks rest.now result }
-    ensures is { Is (read_field site 4 present rest.now) result }
-{
-    if !present {
-        return Ok((absent(site), rest));
-    }
-    let [a, b, c, d, after @ ..] = rest else {
-        return Err(fault_at(site, Refusal::Short, site.length));
-    };
-    Ok((field_at(site, rest, word_value(*a, *b, *c, *d)), after))
+    Ok((field, after))
 }

@@ -9,13 +9,13 @@ use Rattle.format.specs.declared.layout.Site.{Site}
 use Rattle.format.specs.declared.layout.Field.{Field}
 use Rattle.format.specs.Numbers.{Bytes}
 use Rattle.format.specs.Encoding.{channel_widths, record_of, encode_channel}
-use Rattle.format.specs.Rules.{broken, channel_rules, in_range, at}
+use Rattle.format.specs.Rules.{broken, value_of, channel_rules, in_range, at}
 use Rattle.format.specs.Reading.{channel_of, direction_of, site_at, read_channel}
 use Rattle.script.specs.Kinds.{code_of}
 use Rattle.format.proofs.Steps.{passed, all_kept}
-use Rattle.format.proofs.Round.{Fit, value_of, read_record_lem, write_record}
+use Rattle.format.proofs.Round.{Fit, read_record_lem, write_record}
 
-pub at_value : (fs : List Field) (k : ℕ) → (at fs k).value ≡ get_or (map value_of fs) k 0
+pub at_value : (fs : List Field) (k : ℕ) → value_of (at fs k) ≡ get_or (map value_of fs) k 0
 at_value [] k = refl
 at_value (f ∷ fs) zero = refl
 at_value (f ∷ fs) (suc k) = at_value fs k
@@ -44,10 +44,10 @@ read_again end i n c rest lt le =
     let code = code_small c.direction in
     let r = read_record_lem channel_widths (channel_rules n) channel_of s (code_of c.direction ∷ c.level ∷ []) rest (omega arith, (omega arith, tt)) in
     let fs = r.0 in
-    let v0 : (at fs 0).value ≡ code_of c.direction = at_value fs 0 ∙ ap (λ l. get_or l 0 0) r.1 in
-    let v1 : (at fs 1).value ≡ c.level = at_value fs 1 ∙ ap (λ l. get_or l 1 0) r.1 in
-    let t0 : ltb (at fs 0).value 2 ≡ true = lt-ltb _ _ (omega arith) in
-    let t1 : ltb (at fs 1).value n ≡ true = lt-ltb _ _ (omega arith) in
+    let v0 : value_of (at fs 0) ≡ code_of c.direction = at_value fs 0 ∙ ap (λ l. get_or l 0 0) r.1 in
+    let v1 : value_of (at fs 1) ≡ c.level = at_value fs 1 ∙ ap (λ l. get_or l 1 0) r.1 in
+    let t0 : ltb (value_of (at fs 0)) 2 ≡ true = lt-ltb _ _ (omega arith) in
+    let t1 : ltb (value_of (at fs 1)) n ≡ true = lt-ltb _ _ (omega arith) in
     let made : channel_of fs ≡ c = simp (v0, v1, direction_code) in
     passed _ _ _ (c, rest) r.2 (cond-true _ _ _ t0 ∙ cond-true _ _ _ t1) (ap (λ x. (x, rest)) made)
 
@@ -55,11 +55,11 @@ two_values : (n : ℕ) (s : Site) (fs : List Field) (c : Channel) → Fit channe
 two_values n s [] c fit ok e = absurd fit
 two_values n s (f ∷ []) c fit ok e = absurd fit.1
 two_values n s (f ∷ g ∷ []) c fit ok e =
-    let one = all_kept (in_range s (ltb f.value 2) f) (in_range s (ltb g.value n) g ∷ []) ok in
-    let two = all_kept (in_range s (ltb g.value n) g) [] one.1 in
-    let level : g.value ≡ c.level = ap (λ (x : Channel). x.level) e in
-    let code : f.value ≡ code_of c.direction = sym (code_direction _ (ltb-true _ _ one.0)) ∙ ap (λ (x : Channel). code_of x.direction) e in
-    (ap (λ v. record_of channel_widths (v ∷ g.value ∷ [])) code ∙ ap (λ v. record_of channel_widths (code_of c.direction ∷ v ∷ [])) level, subst (λ v. v < n) level (ltb-true _ _ two.0))
+    let one = all_kept (in_range s (ltb (value_of f) 2) f) (in_range s (ltb (value_of g) n) g ∷ []) ok in
+    let two = all_kept (in_range s (ltb (value_of g) n) g) [] one.1 in
+    let level : value_of g ≡ c.level = ap (λ (x : Channel). x.level) e in
+    let code : value_of f ≡ code_of c.direction = sym (code_direction _ (ltb-true _ _ one.0)) ∙ ap (λ (x : Channel). code_of x.direction) e in
+    (ap (λ v. record_of channel_widths (v ∷ value_of g ∷ [])) code ∙ ap (λ v. record_of channel_widths (code_of c.direction ∷ v ∷ [])) level, subst (λ v. v < n) level (ltb-true _ _ two.0))
 two_values n s (f ∷ g ∷ x ∷ fs) c fit ok e = absurd fit.1.1
 
 -- what a channel is read from is what would be written for it

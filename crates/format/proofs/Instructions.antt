@@ -1,9 +1,10 @@
 -- The instruction record's round trip. Assumes nothing.
-use Rattle.std.proofs.Common.{◌≡◌, ℕ, zero, suc, ◌^◌, ◌<◌, ◌≤◌, Bool, true, false, cond, not, ◌||◌, eqb, ltb, leb, List, [], ◌∷◌, ◌++◌, map, length, get_or, ℤ, None, Ok, sym, refl, ap, ◌∙◌, subst, arith, lit<, w32, Fits, SFits, to_z, of_z}
+use Rattle.std.proofs.Common.{◌≡◌, ℕ, zero, suc, ◌^◌, ◌<◌, ◌≤◌, Bool, true, false, cond, not, ◌||◌, eqb, ltb, leb, List, [], ◌∷◌, ◌++◌, map, length, get_or, ℤ, Some, None, Option, Ok, sym, refl, ap, ◌∙◌, subst, arith, lit<, w32, Fits, SFits, to_z, of_z}
 use mir.Facts.{Fits-of_z, sfits_to_z}
 use Rattle.std.proofs.lemmas.Int.{to_z-of_z, of_z-to_z}
-use Rattle.std.proofs.lemmas.Bool.{ltb-true, leb-true, and_parts, cond-true, cond-false, and_from, le-leb, leb-false, eqb-true, eqb-false, ne_eqb, cond_both, or_left, or_right, or_from}
+use Rattle.std.proofs.lemmas.Bool.{ltb-true, true≢false, leb-true, and_parts, cond-true, cond-false, and_from, le-leb, leb-false, eqb-true, eqb-false, ne_eqb, cond_both, or_left, or_right, or_from}
 use Rattle.std.specs.List.{AllByRecursion}
+use Rattle.std.specs.Option.{unwrap_or, is_some}
 use Rattle.script.specs.declared.parts.Channel.{Channel}
 use Rattle.script.specs.declared.parts.Operation.{Operation}
 use Rattle.script.specs.declared.parts.Operation.TheVariants.{Add, Subtract, Multiply, Quotient, Remainder, Less, Same}
@@ -15,12 +16,12 @@ use Rattle.format.specs.declared.layout.Site.{Site}
 use Rattle.format.specs.declared.layout.Field.{Field}
 use Rattle.format.specs.Numbers.{Bytes}
 use Rattle.format.specs.Encoding.{instruction_widths, record_of, instruction_values, encode_instruction}
-use Rattle.format.specs.Rules.{Rule, broken, at, uses_target, uses_first, uses_second, uses_number, uses_place, uses_channel, suits, instruction_rules, kind_rules, range_rules}
+use Rattle.format.specs.Rules.{Rule, broken, is_there, value_of, at, uses_target, uses_first, uses_second, uses_number, uses_place, uses_channel, suits, instruction_rules, kind_rules, range_rules}
 use Rattle.format.specs.Reading.{site_at, instruction_of, operation_of, read_instruction}
 use Rattle.script.specs.Kinds.{kind_of}
 use Rattle.format.proofs.Words.{word_fits, fits_word}
 use Rattle.format.proofs.Steps.{passed, all_kept}
-use Rattle.format.proofs.Round.{Fit, value_of, read_record_lem, write_record, broken_split}
+use Rattle.format.proofs.Round.{Fit, read_record_lem, write_record, broken_split}
 use Rattle.format.proofs.Channels.{at_value}
 
 -- every rule is kept
@@ -28,7 +29,7 @@ pub kept_all : (rs : List Rule) → broken rs ≡ None → AllByRecursion (λ r.
 kept_all [] e = tt
 kept_all (r ∷ rs) e = let k = all_kept r rs e in (k.0, kept_all rs k.1)
 
-at_shown : (fs : List Field) (k : ℕ) → AllByRecursion (λ f. not f.present ≡ eqb f.value 0) fs → not (at fs k).present ≡ eqb (at fs k).value 0
+at_shown : (fs : List Field) (k : ℕ) → AllByRecursion (λ f. not (is_there f) ≡ eqb (value_of f) 0) fs → not (is_there (at fs k)) ≡ eqb (value_of (at fs k)) 0
 at_shown [] k h = refl
 at_shown (f ∷ fs) zero h = h.0
 at_shown (f ∷ fs) (suc k) h = at_shown fs k h.1
@@ -51,11 +52,11 @@ pub record Kept (cs : List Channel) (m k t f s n p c : ℕ) : Type 0 where
 abbrev Keeps : List Channel → ℕ → List ℕ → Type 0
 Keeps cs m vs = Kept cs m (get_or vs 0 0) (get_or vs 1 0) (get_or vs 2 0) (get_or vs 3 0) (get_or vs 4 0) (get_or vs 5 0) (get_or vs 6 0)
 
-rules_kept : (cs : List Channel) (m : ℕ) (s : Site) (fs : List Field) (vs : List ℕ) → map value_of fs ≡ vs → AllByRecursion (λ f. not f.present ≡ eqb f.value 0) fs → Keeps cs m vs → broken (instruction_rules cs m s fs) ≡ None
+rules_kept : (cs : List Channel) (m : ℕ) (s : Site) (fs : List Field) (vs : List ℕ) → map value_of fs ≡ vs → AllByRecursion (λ f. not (is_there f) ≡ eqb (value_of f) 0) fs → Keeps cs m vs → broken (instruction_rules cs m s fs) ≡ None
 rules_kept cs m s fs vs e h k =
-    let v : (i : ℕ) → (at fs i).value ≡ get_or vs i 0 = λ i. at_value fs i ∙ ap (λ l. get_or l i 0) e in
-    let w : (u : ℕ → Bool) (i : ℕ) → (u (get_or vs 0 0) || eqb (get_or vs i 0) 0) ≡ true → (u (at fs 0).value || not (at fs i).present) ≡ true =
-    λ u i t. ap (λ b. u (at fs 0).value || b) (at_shown fs i h) ∙ ap (λ x. u x || eqb (at fs i).value 0) (v 0) ∙ ap (λ x. u (get_or vs 0 0) || eqb x 0) (v i) ∙ t in
+    let v : (i : ℕ) → value_of (at fs i) ≡ get_or vs i 0 = λ i. at_value fs i ∙ ap (λ l. get_or l i 0) e in
+    let w : (u : ℕ → Bool) (i : ℕ) → (u (get_or vs 0 0) || eqb (get_or vs i 0) 0) ≡ true → (u (value_of (at fs 0)) || not (is_there (at fs i))) ≡ true =
+    λ u i t. ap (λ b. u (value_of (at fs 0)) || b) (at_shown fs i h) ∙ ap (λ x. u x || eqb (value_of (at fs i)) 0) (v 0) ∙ ap (λ x. u (get_or vs 0 0) || eqb x 0) (v i) ∙ t in
     cond-true _ _ _ (ap (λ x. leb x 12) (v 0) ∙ k.kind)
     ∙ cond-true _ _ _ (w uses_target 1 k.target)
     ∙ cond-true _ _ _ (w uses_first 2 k.first)
@@ -67,7 +68,7 @@ rules_kept cs m s fs vs e h k =
     ∙ cond-true _ _ _ (ap (λ x. ltb x 16) (v 2) ∙ k.first_in)
     ∙ cond-true _ _ _ (ap (λ x. ltb x 16) (v 3) ∙ k.second_in)
     ∙ cond-true _ _ _ (ap (λ x. leb x m) (v 5) ∙ k.place_in)
-    ∙ cond-true _ _ _ (ap (λ x. suits cs x (at fs 6).value) (v 0) ∙ ap (λ x. suits cs (get_or vs 0 0) x) (v 6) ∙ k.channel_in)
+    ∙ cond-true _ _ _ (ap (λ x. suits cs x (value_of (at fs 6))) (v 0) ∙ ap (λ x. suits cs (get_or vs 0 0) x) (v 6) ∙ k.channel_in)
 
 -- the instruction of seven values
 abbrev of_values : ℕ → ℕ → ℕ → ℕ → ℕ → ℕ → ℕ → Instruction
@@ -82,7 +83,7 @@ of_values k t f s n p c =
 
 made_of : (fs : List Field) (vs : List ℕ) → map value_of fs ≡ vs → instruction_of fs ≡ of_values (get_or vs 0 0) (get_or vs 1 0) (get_or vs 2 0) (get_or vs 3 0) (get_or vs 4 0) (get_or vs 5 0) (get_or vs 6 0)
 made_of fs vs e =
-    let v : (i : ℕ) → (at fs i).value ≡ get_or vs i 0 = λ i. at_value fs i ∙ ap (λ l. get_or l i 0) e in
+    let v : (i : ℕ) → value_of (at fs i) ≡ get_or vs i 0 = λ i. at_value fs i ∙ ap (λ l. get_or l i 0) e in
     λ i. of_values (v 0 i) (v 1 i) (v 2 i) (v 3 i) (v 4 i) (v 5 i) (v 6 i)
 
 -- what an operation's kind uses
@@ -173,9 +174,13 @@ not_true_of false e = refl
 seven : {a b c d e f g a' b' c' d' e' f' g' : ℕ} → a ≡ a' → b ≡ b' → c ≡ c' → d ≡ d' → e ≡ e' → f ≡ f' → g ≡ g' → a ∷ b ∷ c ∷ d ∷ e ∷ f ∷ g ∷ [] ≡ a' ∷ b' ∷ c' ∷ d' ∷ e' ∷ f' ∷ g' ∷ []
 seven p q r s t u v = cc
 
+absent_is_0 : (o : Option ℕ) → is_some o ≡ false → unwrap_or o 0 ≡ 0
+absent_is_0 None h = refl
+absent_is_0 (Some v) h = absurd (true≢false h)
+
 -- a field that the kind does not use is 0
-unused : (u : Bool) (f : Field) → (u || not f.present) ≡ true → (f.present ≡ false → f.value ≡ 0) → u ≡ false → f.value ≡ 0
-unused u f h gone e = gone (not_true_of f.present (subst (λ b. (b || not f.present) ≡ true) e h))
+unused : (u : Bool) (f : Field) → (u || not (is_there f)) ≡ true → u ≡ false → value_of f ≡ 0
+unused u f h e = absent_is_0 f.value (not_true_of (is_there f) (subst (λ b. (b || not (is_there f)) ≡ true) e h))
 
 kind_operation : (k : ℕ) → 2 ≤ k → k ≤ 8 → kind_of (operation_of k) ≡ k
 kind_operation zero l r = absurd (omega arith)
@@ -190,29 +195,29 @@ kind_operation (suc (suc (suc (suc (suc (suc (suc (suc zero)))))))) l r = refl
 kind_operation (suc (suc (suc (suc (suc (suc (suc (suc (suc k))))))))) l r = absurd (omega arith)
 
 -- the values of seven fields that keep the rules are those of the instruction that they make
-values_again : (cs : List Channel) (m : ℕ) (s : Site) (fs : List Field) → Fit instruction_widths (map value_of fs) → broken (instruction_rules cs m s fs) ≡ None → AllByRecursion (λ f. f.present ≡ false → f.value ≡ 0) fs → instruction_values (instruction_of fs) ≡ map value_of fs
-values_again cs m s [] fit ok g = absurd fit
-values_again cs m s (a ∷ []) fit ok g = absurd fit.1
-values_again cs m s (a ∷ b ∷ []) fit ok g = absurd fit.1.1
-values_again cs m s (a ∷ b ∷ c ∷ []) fit ok g = absurd fit.1.1.1
-values_again cs m s (a ∷ b ∷ c ∷ d ∷ []) fit ok g = absurd fit.1.1.1.1
-values_again cs m s (a ∷ b ∷ c ∷ d ∷ e ∷ []) fit ok g = absurd fit.1.1.1.1.1
-values_again cs m s (a ∷ b ∷ c ∷ d ∷ e ∷ f ∷ []) fit ok g = absurd fit.1.1.1.1.1.1
-values_again cs m s (a ∷ b ∷ c ∷ d ∷ e ∷ f ∷ h ∷ x ∷ fs) fit ok g = absurd fit.1.1.1.1.1.1.1
-values_again cs m s (a ∷ b ∷ c ∷ d ∷ e ∷ f ∷ h ∷ []) fit ok g =
+values_again : (cs : List Channel) (m : ℕ) (s : Site) (fs : List Field) → Fit instruction_widths (map value_of fs) → broken (instruction_rules cs m s fs) ≡ None → instruction_values (instruction_of fs) ≡ map value_of fs
+values_again cs m s [] fit ok = absurd fit
+values_again cs m s (a ∷ []) fit ok = absurd fit.1
+values_again cs m s (a ∷ b ∷ []) fit ok = absurd fit.1.1
+values_again cs m s (a ∷ b ∷ c ∷ []) fit ok = absurd fit.1.1.1
+values_again cs m s (a ∷ b ∷ c ∷ d ∷ []) fit ok = absurd fit.1.1.1.1
+values_again cs m s (a ∷ b ∷ c ∷ d ∷ e ∷ []) fit ok = absurd fit.1.1.1.1.1
+values_again cs m s (a ∷ b ∷ c ∷ d ∷ e ∷ f ∷ []) fit ok = absurd fit.1.1.1.1.1.1
+values_again cs m s (a ∷ b ∷ c ∷ d ∷ e ∷ f ∷ h ∷ x ∷ fs) fit ok = absurd fit.1.1.1.1.1.1.1
+values_again cs m s (a ∷ b ∷ c ∷ d ∷ e ∷ f ∷ h ∷ []) fit ok =
     let r = kept_all (instruction_rules cs m s (a ∷ b ∷ c ∷ d ∷ e ∷ f ∷ h ∷ [])) ok in
-    let k = a.value in
+    let k = value_of a in
     let top : k ≤ 12 = leb-true _ _ r.0 in
-    let no_target : uses_target k ≡ false → b.value ≡ 0 = unused (uses_target k) b r.1.0 g.1.0 in
-    let no_first : uses_first k ≡ false → c.value ≡ 0 = unused (uses_first k) c r.1.1.0 g.1.1.0 in
-    let no_second : uses_second k ≡ false → d.value ≡ 0 = unused (uses_second k) d r.1.1.1.0 g.1.1.1.0 in
-    let no_number : uses_number k ≡ false → e.value ≡ 0 = unused (uses_number k) e r.1.1.1.1.0 g.1.1.1.1.0 in
-    let no_place : uses_place k ≡ false → f.value ≡ 0 = unused (uses_place k) f r.1.1.1.1.1.0 g.1.1.1.1.1.0 in
-    let no_channel : uses_channel k ≡ false → h.value ≡ 0 = unused (uses_channel k) h r.1.1.1.1.1.1.0 g.1.1.1.1.1.1.0 in
-    let vs = k ∷ b.value ∷ c.value ∷ d.value ∷ e.value ∷ f.value ∷ h.value ∷ [] in
+    let no_target : uses_target k ≡ false → value_of b ≡ 0 = unused (uses_target k) b r.1.0 in
+    let no_first : uses_first k ≡ false → value_of c ≡ 0 = unused (uses_first k) c r.1.1.0 in
+    let no_second : uses_second k ≡ false → value_of d ≡ 0 = unused (uses_second k) d r.1.1.1.0 in
+    let no_number : uses_number k ≡ false → value_of e ≡ 0 = unused (uses_number k) e r.1.1.1.1.0 in
+    let no_place : uses_place k ≡ false → value_of f ≡ 0 = unused (uses_place k) f r.1.1.1.1.1.0 in
+    let no_channel : uses_channel k ≡ false → value_of h ≡ 0 = unused (uses_channel k) h r.1.1.1.1.1.1.0 in
+    let vs = k ∷ value_of b ∷ value_of c ∷ value_of d ∷ value_of e ∷ value_of f ∷ value_of h ∷ [] in
     let P : Instruction → Type 0 = λ i. instruction_values i ≡ vs in
     cond_both (eqb k 0) _ _ P (λ t. let z = eqb-true k 0 t in seven (sym z) (sym (no_target (ap uses_target z))) (sym (no_first (ap uses_first z))) (sym (no_second (ap uses_second z))) (sym (no_number (ap uses_number z))) (sym (no_place (ap uses_place z))) (sym (no_channel (ap uses_channel z)))) (λ n0.
-    cond_both (eqb k 1) _ _ P (λ t. let z = eqb-true k 1 t in seven (sym z) refl (sym (no_first (ap uses_first z))) (sym (no_second (ap uses_second z))) (of_z-to_z w32 e.value fit.1.1.1.1.0) (sym (no_place (ap uses_place z))) (sym (no_channel (ap uses_channel z)))) (λ n1.
+    cond_both (eqb k 1) _ _ P (λ t. let z = eqb-true k 1 t in seven (sym z) refl (sym (no_first (ap uses_first z))) (sym (no_second (ap uses_second z))) (of_z-to_z w32 (value_of e) fit.1.1.1.1.0) (sym (no_place (ap uses_place z))) (sym (no_channel (ap uses_channel z)))) (λ n1.
     cond_both (leb k 8) _ _ P (λ t.
     let le = leb-true k 8 t in
     let not0 = eqb-false k 0 n0 in
@@ -233,7 +238,7 @@ pub instruction_written_again : (end i : ℕ) (cs : List Channel) (m : ℕ) (x :
 instruction_written_again end i cs m x bs rest h e =
     let s = site_at end (part.Instruction i) bs in
     let r = write_record instruction_widths (instruction_rules cs m) instruction_of s bs rest x h e in
-    let same = values_again cs m s r.0 r.2 r.3 r.5 in
+    let same = values_again cs m s r.0 r.2 r.3 in
     ap (λ vs. record_of instruction_widths vs ++ rest) (ap instruction_values (sym r.4) ∙ same) ∙ r.1
 
 -- the fifth of seven values fits its four bytes
@@ -249,15 +254,15 @@ fifth (a ∷ b ∷ c ∷ d ∷ e ∷ vs) h = h.1.1.1.1.0
 kept_sound : (cs : List Channel) (m : ℕ) (s : Site) (fs : List Field) → Fit instruction_widths (map value_of fs) → broken (instruction_rules cs m s fs) ≡ None → sound cs (length cs) m (instruction_of fs) ≡ true
 kept_sound cs m s fs fit ok =
     let r = kept_all (range_rules cs m s fs) (broken_split (kind_rules s fs) (range_rules cs m s fs) ok).1 in
-    let k = (at fs 0).value in
+    let k = value_of (at fs 0) in
     let target = r.0 in
     let first = r.1.0 in
     let second = r.1.1.0 in
     let place = r.1.1.1.0 in
     let channel = r.1.1.1.1.0 in
-    let small : (at fs 4).value < 256 ^ 4 = subst (λ v. v < 256 ^ 4) (sym (at_value fs 4)) (fifth (map value_of fs) fit) in
-    let fits : Fits w32 (at fs 4).value = record { fits = small } in
-    let number = fits_word (to_z w32 (at fs 4).value) (sfits_to_z {w = w32} {n = (at fs 4).value} fits) in
+    let small : value_of (at fs 4) < 256 ^ 4 = subst (λ v. v < 256 ^ 4) (sym (at_value fs 4)) (fifth (map value_of fs) fit) in
+    let fits : Fits w32 (value_of (at fs 4)) = record { fits = small } in
+    let number = fits_word (to_z w32 (value_of (at fs 4))) (sfits_to_z {w = w32} {n = value_of (at fs 4)} fits) in
     let P : Instruction → Type 0 = λ i. sound cs (length cs) m i ≡ true in
     cond_both (eqb k 0) _ _ P (λ _. refl) (λ _.
     cond_both (eqb k 1) _ _ P (λ _. and_from _ _ target number) (λ _.

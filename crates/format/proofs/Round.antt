@@ -2,7 +2,7 @@
 use Rattle.std.proofs.Common.{◌≡◌, ℕ, zero, suc, ◌+◌, ◌-◌, ◌*◌, ◌/◌, ◌%◌, ◌^◌, ◌<◌, ◌≤◌, Bool, true, false, cond, not, ◌&&◌, eqb, ltb, leb, List, [], ◌∷◌, ◌++◌, map, length, take, drop, Some, None, Ok, Err, Option, Result, sym, refl, ap, ◌∙◌, subst, ⊎_elim, append_assoc, pow-suc, arith, lit<, lit≤, length-append}
 use native.Mathlib.Nat.{one-le-pow}
 use Rattle.std.specs.List.{AllByRecursion}
-use Rattle.std.proofs.lemmas.Bool.{lt-ltb, le-leb, cond-true, cond-false, cond_both, cases_Bool, true≢false, not-true, eq-eqb, eqb-true, leb-true, ltb-true, eqb-false, ne_eqb}
+use Rattle.std.proofs.lemmas.Bool.{lt-ltb, le-leb, cond-true, cond-false, cond_both, cases_Bool, not-true, eq-eqb, eqb-true, leb-true, ltb-true, eqb-false, ne_eqb}
 use Rattle.std.proofs.lemmas.List.{take_at, drop_at, take-append-drop, length-take-le}
 use Rattle.std.proofs.ByRecursion.{All-take, All-drop}
 use Rattle.refusal.specs.declared.Fault.{Fault}
@@ -10,7 +10,7 @@ use Rattle.format.specs.declared.layout.Site.{Site}
 use Rattle.format.specs.declared.layout.Field.{Field}
 use Rattle.format.specs.Numbers.{number, odd, bytes_of, Bytes}
 use Rattle.format.specs.Encoding.{map_of, body_of, record_of}
-use Rattle.format.specs.Rules.{Rule, broken, not_zero}
+use Rattle.format.specs.Rules.{Rule, broken, is_there, value_of, not_zero}
 use Rattle.format.specs.Reading.{read_field, and_then, unless, read_fields, read_record}
 use Rattle.format.proofs.Steps.{fields_more, all_kept, broken_append}
 
@@ -52,16 +52,13 @@ Fit [] (v ∷ vs) = ⊥
 Fit (w ∷ ws) [] = ⊥
 Fit (w ∷ ws) (v ∷ vs) = (v < 256 ^ w) × Fit ws vs
 
-abbrev pub value_of : Field → ℕ
-value_of f = f.value
-
 -- fields that hold vs, as read from what writes vs
 pub record Back (s : Site) (ws vs rest : List ℕ) (m : ℕ) (bs : List ℕ) : Type 0 where
   pub fields : List Field
   pub reads : read_fields s ws m bs ≡ Ok (fields, rest)
   pub holds : map value_of fields ≡ vs
   pub clean : broken (map (not_zero s) fields) ≡ None
-  pub shown : AllByRecursion (λ f. not f.present ≡ eqb f.value 0) fields
+  pub shown : AllByRecursion (λ f. not (is_there f) ≡ eqb (value_of f) 0) fields
 
 module _ (s : Site) (w : ℕ) (ws : List ℕ) (v : ℕ) (vs rest : List ℕ) (ih : Back s ws vs rest (map_of vs) (body_of ws vs ++ rest)) where
   -- a field that is 0 is absent
@@ -69,7 +66,7 @@ module _ (s : Site) (w : ℕ) (ws : List ℕ) (v : ℕ) (vs rest : List ℕ) (ih
   back_none e =
       let half : (0 + 2 * map_of vs) / 2 ≡ map_of vs = omega arith in
       record {
-        fields = record { present = false; byte = s.map_at; value = 0 } ∷ ih.fields;
+        fields = record { byte = s.map_at; value = None } ∷ ih.fields;
         reads = fields_more s w ws (0 + 2 * map_of vs) _ false (odd_even (map_of vs)) _ _ ih.fields rest refl (rw half ih.reads);
         holds = cc ih.holds;
         clean = ih.clean;
@@ -87,7 +84,7 @@ module _ (s : Site) (w : ℕ) (ws : List ℕ) (v : ℕ) (vs rest : List ℕ) (ih
       let end : drop w (mine ++ after) ≡ after = drop_at mine after w (length_bytes_of w v) in
       let test = ne_eqb v 0 ne in
       rw append_assoc (record {
-        fields = record { present = true; byte = s.length - length (mine ++ after); value = v } ∷ ih.fields;
+        fields = record { byte = s.length - length (mine ++ after); value = Some v } ∷ ih.fields;
         reads = fields_more s w ws (1 + 2 * map_of vs) (mine ++ after) true (odd_odd (map_of vs)) _ after ih.fields rest
             (cond-true _ _ _ (le-leb w _ long) ∙ simp (front, end, number_bytes_of w v h)) (rw half ih.reads);
         holds = cc ih.holds;
@@ -115,10 +112,10 @@ pub parts : {X Y E : Type 0} (x x' : X) (y y' : Y) → ◌≡◌ {A = Result (X 
 parts {X} {Y} x x' y y' e = let d : ◌≡◌ {A = X × Y} (x, y) (x', y') = cc in (ap (λ (p : X × Y). p.0) d, ap (λ (p : X × Y). p.1) d)
 
 abbrev pub absent : Site → Field
-absent s = record { present = false; byte = s.map_at; value = 0 }
+absent s = record { byte = s.map_at; value = None }
 
 abbrev pub present : Site → ℕ → List ℕ → Field
-present s w bs = record { present = true; byte = s.length - length bs; value = number (take w bs) }
+present s w bs = record { byte = s.length - length bs; value = Some (number (take w bs)) }
 
 pub field_absent : (s : Site) (w : ℕ) (bs : List ℕ) (f : Field) (r : List ℕ) → read_field s w false bs ≡ Ok (f, r) → (absent s ≡ f) × (bs ≡ r)
 field_absent s w bs f r e = parts _ _ _ _ e
@@ -138,14 +135,13 @@ pub record Forth (ws : List ℕ) (m : ℕ) (bs : List ℕ) (fs : List Field) (re
   pub map_is : map_of (map value_of fs) ≡ m
   pub body_is : body_of ws (map value_of fs) ++ rest ≡ bs
   pub fit : Fit ws (map value_of fs)
-  pub gone : AllByRecursion (λ f. f.present ≡ false → f.value ≡ 0) fs
 
 module _ (s : Site) (w : ℕ) (ws : List ℕ) (m : ℕ) (bs : List ℕ) (f : Field) (r : List ℕ) (fs : List Field) (rest : List ℕ) (h : Bytes bs) (fine : (not_zero s f).kept ≡ true) where
   forth_none : odd m ≡ false → read_field s w (odd m) bs ≡ Ok (f, r) → Forth ws (m / 2) r fs rest → Forth (w ∷ ws) m bs (f ∷ fs) rest
   forth_none o e ih =
       let is = field_absent s w bs f r (subst (λ b. read_field s w b bs ≡ Ok (f, r)) o e) in
-      let value : 0 ≡ f.value = ap value_of is.0 in
-      let test : eqb f.value 0 ≡ true = eq-eqb f.value 0 (sym value) in
+      let value : 0 ≡ value_of f = ap value_of is.0 in
+      let test : eqb (value_of f) 0 ≡ true = eq-eqb (value_of f) 0 (sym value) in
       let ne : (m % 2 ≡ 1) → ⊥ = eqb-false (m % 2) 1 o in
       let even : m % 2 ≡ 0 = omega arith in
       let more : 0 < 256 ^ w = one-le-pow w 256 (lit< tt) in
@@ -153,30 +149,28 @@ module _ (s : Site) (w : ℕ) (ws : List ℕ) (m : ℕ) (bs : List ℕ) (f : Fie
         map_is = simp test (omega (arith, ih.map_is));
         body_is = simp test (ih.body_is ∙ sym is.1);
         fit = (omega arith, ih.fit);
-        gone = (λ _. sym value, ih.gone);
       }
 
   forth_some : odd m ≡ true → read_field s w (odd m) bs ≡ Ok (f, r) → Forth ws (m / 2) r fs rest → Forth (w ∷ ws) m bs (f ∷ fs) rest
   forth_some o e ih =
       let is = field_present s w bs f r (subst (λ b. read_field s w b bs ≡ Ok (f, r)) o e) in
-      let value : number (take w bs) ≡ f.value = ap value_of is.1.0 in
-      let there : true ≡ f.present = ap (λ (g : Field). g.present) is.1.0 in
-      let test : eqb f.value 0 ≡ false = subst (λ b. (b && eqb f.value 0) ≡ false) (sym there) (not-true _ fine) in
+      let value : number (take w bs) ≡ value_of f = ap value_of is.1.0 in
+      let there : true ≡ is_there f = ap is_there is.1.0 in
+      let test : eqb (value_of f) 0 ≡ false = subst (λ b. (b && eqb (value_of f) 0) ≡ false) (sym there) (not-true _ fine) in
       let mine = All-take (λ b. b < 256) w bs h in
       let long = length-take-le w bs is.0 in
-      let front : bytes_of w f.value ≡ take w bs = ap (bytes_of w) (sym value) ∙ subst (λ k. bytes_of k (number (take w bs)) ≡ take w bs) long (bytes_of_number (take w bs) mine) in
+      let front : bytes_of w (value_of f) ≡ take w bs = ap (bytes_of w) (sym value) ∙ subst (λ k. bytes_of k (number (take w bs)) ≡ take w bs) long (bytes_of_number (take w bs) mine) in
       let small : number (take w bs) < 256 ^ w = subst (λ k. number (take w bs) < 256 ^ k) long (number_small (take w bs) mine) in
       record {
         map_is = simp test (omega (arith, ih.map_is, eqb-true (m % 2) 1 o));
         body_is = simp (test, front) (append_assoc (take w bs) (body_of ws (map value_of fs)) rest ∙ ap (λ l. take w bs ++ l) (ih.body_is ∙ sym is.1.1) ∙ take-append-drop w bs);
         fit = (subst (λ k. k < 256 ^ w) value small, ih.fit);
-        gone = (λ e. absurd (true≢false (there ∙ e)), ih.gone);
       }
 
 pub forth : (s : Site) (ws : List ℕ) (m : ℕ) (bs : List ℕ) (fs : List Field) (rest : List ℕ) → m < 2 ^ length ws → Bytes bs → read_fields s ws m bs ≡ Ok (fs, rest) → broken (map (not_zero s) fs) ≡ None → Forth ws m bs fs rest
 forth s [] m bs fs rest lt h e ok =
     let is = parts _ _ _ _ e in
-    subst (λ l. Forth [] m bs l rest) is.0 (record { map_is = omega arith; body_is = sym is.1; fit = tt; gone = tt })
+    subst (λ l. Forth [] m bs l rest) is.0 (record { map_is = omega arith; body_is = sym is.1; fit = tt })
 forth s (w ∷ ws) m bs fs rest lt h e ok =
     let one = and_then_ok (read_field s w (odd m) bs) _ _ e in
     let x = one.0 in
@@ -215,7 +209,7 @@ map_small (w ∷ ws) (v ∷ vs) h =
 
 module _ {X : Type 0} (ws : List ℕ) (rules : Site → List Field → List Rule) (make : List Field → X) (s : Site) where
   -- what is written is read, up to the record's own rules
-  pub read_record_lem : (vs rest : List ℕ) → Fit ws vs → (fs : List Field) × (map value_of fs ≡ vs) × (read_record ws rules make s (record_of ws vs ++ rest) ≡ unless (broken (rules s fs)) (make fs, rest)) × AllByRecursion (λ f. not f.present ≡ eqb f.value 0) fs
+  pub read_record_lem : (vs rest : List ℕ) → Fit ws vs → (fs : List Field) × (map value_of fs ≡ vs) × (read_record ws rules make s (record_of ws vs ++ rest) ≡ unless (broken (rules s fs)) (make fs, rest)) × AllByRecursion (λ f. not (is_there f) ≡ eqb (value_of f) 0) fs
   read_record_lem vs rest h =
       let b = back s ws vs rest h in (
         b.fields,
@@ -227,10 +221,10 @@ module _ {X : Type 0} (ws : List ℕ) (rules : Site → List Field → List Rule
       )
 
   -- what is read is what would be written
-  pub write_record : (bs rest : List ℕ) (x : X) → Bytes bs → read_record ws rules make s bs ≡ Ok (x, rest) → (fs : List Field) × (record_of ws (map value_of fs) ++ rest ≡ bs) × Fit ws (map value_of fs) × (broken (rules s fs) ≡ None) × (make fs ≡ x) × AllByRecursion (λ f. f.present ≡ false → f.value ≡ 0) fs
+  pub write_record : (bs rest : List ℕ) (x : X) → Bytes bs → read_record ws rules make s bs ≡ Ok (x, rest) → (fs : List Field) × (record_of ws (map value_of fs) ++ rest ≡ bs) × Fit ws (map value_of fs) × (broken (rules s fs) ≡ None) × (make fs ≡ x)
   write_record [] rest x h e = let z : ◌≡◌ {A = ℕ} 0 1 = cc in absurd (omega arith)
   write_record (m ∷ bs) rest x h e =
-      let wide : (ltb m (2 ^ length ws) ≡ true) → (fs : List Field) × (record_of ws (map value_of fs) ++ rest ≡ m ∷ bs) × Fit ws (map value_of fs) × (broken (rules s fs) ≡ None) × (make fs ≡ x) × AllByRecursion (λ f. f.present ≡ false → f.value ≡ 0) fs =
+      let wide : (ltb m (2 ^ length ws) ≡ true) → (fs : List Field) × (record_of ws (map value_of fs) ++ rest ≡ m ∷ bs) × Fit ws (map value_of fs) × (broken (rules s fs) ≡ None) × (make fs ≡ x) =
       λ t.
       let one = and_then_ok (read_fields s ws m bs) _ _ (sym (cond-true _ _ _ t) ∙ e) in
       let y = one.0 in
@@ -238,7 +232,7 @@ module _ {X : Type 0} (ws : List ℕ) (rules : Site → List Field → List Rule
       let three = broken_split (map (not_zero s) y.0) (rules s y.0) two.0 in
       let f = forth s ws m bs y.0 y.1 (ltb-true _ _ t) h.1 one.1 three.0 in
       let end : y.1 ≡ rest = ap (λ (p : X × List ℕ). p.1) two.1 in
-      (y.0, subst (λ l. record_of ws (map value_of y.0) ++ l ≡ m ∷ bs) end (simp (f.map_is, f.body_is)), f.fit, three.1, ap (λ (p : X × List ℕ). p.0) two.1, f.gone) in
-      let narrow : (ltb m (2 ^ length ws) ≡ false) → (fs : List Field) × (record_of ws (map value_of fs) ++ rest ≡ m ∷ bs) × Fit ws (map value_of fs) × (broken (rules s fs) ≡ None) × (make fs ≡ x) × AllByRecursion (λ f. f.present ≡ false → f.value ≡ 0) fs =
+      (y.0, subst (λ l. record_of ws (map value_of y.0) ++ l ≡ m ∷ bs) end (simp (f.map_is, f.body_is)), f.fit, three.1, ap (λ (p : X × List ℕ). p.0) two.1) in
+      let narrow : (ltb m (2 ^ length ws) ≡ false) → (fs : List Field) × (record_of ws (map value_of fs) ++ rest ≡ m ∷ bs) × Fit ws (map value_of fs) × (broken (rules s fs) ≡ None) × (make fs ≡ x) =
       λ t. let d = sym (cond-false _ _ _ t) ∙ e in let z : ◌≡◌ {A = ℕ} 0 1 = cc in absurd (omega arith) in
       ⊎_elim wide narrow (cases_Bool (ltb m (2 ^ length ws)))

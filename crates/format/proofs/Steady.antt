@@ -88,9 +88,9 @@ field_more s w true bs more f r e =
     let front : take w (bs ++ more) ≡ take w bs = take-append-le w bs more q.0 in
     let back : drop w (bs ++ more) ≡ drop w bs ++ more = drop-append-le w bs more q.0 in
     cond-true _ _ _ (le-leb w (length (bs ++ more)) long)
-    ∙ ap (λ k. Ok (record { present = true; byte = k; value = number (take w (bs ++ more)) }, drop w (bs ++ more))) place
-    ∙ ap (λ l. Ok (record { present = true; byte = s.length - length bs; value = number l }, drop w (bs ++ more))) front
-    ∙ ap (λ l. Ok (record { present = true; byte = s.length - length bs; value = number (take w bs) }, l)) back
+    ∙ ap (λ k. Ok (record { byte = k; value = Some (number (take w (bs ++ more))) }, drop w (bs ++ more))) place
+    ∙ ap (λ l. Ok (record { byte = s.length - length bs; value = Some (number l) }, drop w (bs ++ more))) front
+    ∙ ap (λ l. Ok (record { byte = s.length - length bs; value = Some (number (take w bs)) }, l)) back
     ∙ ap (λ g. Ok (g, drop w bs ++ more)) q.1.0
     ∙ ap (λ l. Ok (f, l ++ more)) q.1.1
 

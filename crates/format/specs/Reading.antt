@@ -19,7 +19,7 @@ use Rattle.format.specs.declared.layout.Site.{Site}
 use Rattle.format.specs.declared.layout.Field.{Field}
 use Rattle.format.specs.Numbers.{number, odd}
 use Rattle.format.specs.Encoding.{channel_widths, instruction_widths}
-use Rattle.format.specs.Rules.{Rule, broken, fault, not_zero, at, channel_rules, instruction_rules}
+use Rattle.format.specs.Rules.{Rule, broken, fault, value_of, not_zero, at, channel_rules, instruction_rules}
 
 -- one step after another; the first fault ends it
 abbrev pub and_then : {X Y E : Type 0} → Result X E → (X → Result Y E) → Result Y E
@@ -35,10 +35,10 @@ short_at s = fault why.Short s.length s.part
 
 -- the field of w bytes at the front of bs, and what is left
 abbrev pub read_field : Site → ℕ → Bool → List ℕ → Result (Field × List ℕ) Fault
-read_field s w false bs = Ok (record { present = false; byte = s.map_at; value = 0 }, bs)
+read_field s w false bs = Ok (record { byte = s.map_at; value = None }, bs)
 read_field s w true bs =
     cond (nat_le w (length bs))
-    (Ok (record { present = true; byte = s.length - length bs; value = number (take w bs) }, drop w bs))
+    (Ok (record { byte = s.length - length bs; value = Some (number (take w bs)) }, drop w bs))
     (Err (short_at s))
 
 -- the fields of the widths ws, lowest bit of the map first
@@ -69,7 +69,7 @@ abbrev pub direction_of : ℕ → Direction
 direction_of v = cond (v == 0) In Out
 
 abbrev pub channel_of : List Field → Channel
-channel_of fs = record { direction = direction_of (at fs 0).value; level = (at fs 1).value }
+channel_of fs = record { direction = direction_of (value_of (at fs 0)); level = value_of (at fs 1) }
 
 -- the record of channel i at the front of bs, in a file of length end with n levels
 abbrev pub read_channel : ℕ → ℕ → ℕ → List ℕ → Result (Channel × List ℕ) Fault
@@ -80,15 +80,15 @@ operation_of k = cond (k == 2) Add (cond (k == 3) Subtract (cond (k == 4) Multip
 
 abbrev pub instruction_of : List Field → Instruction
 instruction_of fs =
-    let k = (at fs 0).value in
-    let target = (at fs 1).value in
-    let first = (at fs 2).value in
+    let k = value_of (at fs 0) in
+    let target = value_of (at fs 1) in
+    let first = value_of (at fs 2) in
     cond (k == 0) Skip
-    (cond (k == 1) (Set target (to_z w32 (at fs 4).value))
-    (cond (nat_le k 8) (Compute (operation_of k) target first (at fs 3).value)
-    (cond (k == 9) (Jump first (at fs 5).value)
-    (cond (k == 10) (Input target (at fs 6).value)
-    (cond (k == 11) (Output first (at fs 6).value)
+    (cond (k == 1) (Set target (to_z w32 (value_of (at fs 4))))
+    (cond (nat_le k 8) (Compute (operation_of k) target first (value_of (at fs 3)))
+    (cond (k == 9) (Jump first (value_of (at fs 5)))
+    (cond (k == 10) (Input target (value_of (at fs 6)))
+    (cond (k == 11) (Output first (value_of (at fs 6)))
     Stop)))))
 
 -- the record of instruction i at the front of bs, in a script with the channels cs and m instructions

@@ -1,5 +1,6 @@
 -- The rules of a record once its fields are read, in the order in which they are judged. Assumes nothing.
-use Rattle.std.specs.Prelude.{ℕ, Bool, true, false, cond, not, ◌&&◌, ◌||◌, List, [], ◌∷◌, ◌++◌, length, Some, None, Option, ◌==◌, nat_le, nat_lt, slice_index_or}
+use Rattle.std.specs.Prelude.{ℕ, Bool, true, cond, not, ◌&&◌, ◌||◌, List, [], ◌∷◌, ◌++◌, length, Some, None, Option, ◌==◌, nat_le, nat_lt, slice_index_or}
+use Rattle.std.specs.Option.{unwrap_or, is_some}
 use Rattle.refusal.specs.declared.Refusal.{Refusal}
 use Rattle.refusal.specs.declared.Refusal.TheVariants as why
 use Rattle.refusal.specs.declared.Part.{Part}
@@ -23,26 +24,34 @@ abbrev pub broken : List Rule → Option Fault
 broken [] = None
 broken (r ∷ rs) = cond r.kept (broken rs) (Some r.else)
 
+-- is the field there?
+abbrev pub is_there : Field → Bool
+is_there f = is_some f.value
+
+-- the number that a field holds, 0 where it is absent
+abbrev pub value_of : Field → ℕ
+value_of f = unwrap_or f.value 0
+
 -- a field that is there is not 0
 abbrev pub not_zero : Site → Field → Rule
-not_zero s f = record { kept = not (f.present && f.value == 0); else = fault why.Zero f.byte s.part }
+not_zero s f = record { kept = not (is_there f && value_of f == 0); else = fault why.Zero f.byte s.part }
 
 abbrev pub in_range : Site → Bool → Field → Rule
 in_range s ok f = record { kept = ok; else = fault why.Range f.byte s.part }
 
 -- a field that is there is used
 abbrev pub wanted : Site → Bool → Field → Rule
-wanted s used f = record { kept = used || not f.present; else = fault why.Map s.map_at s.part }
+wanted s used f = record { kept = used || not (is_there f); else = fault why.Map s.map_at s.part }
 
 abbrev pub none : Field
-none = record { present = false; byte = 0; value = 0 }
+none = record { byte = 0; value = None }
 
 abbrev pub at : List Field → ℕ → Field
 at fs k = slice_index_or fs k none
 
 -- a channel record in a script of n levels: direction, then level
 abbrev pub channel_rules : ℕ → Site → List Field → List Rule
-channel_rules n s fs = in_range s (nat_lt (at fs 0).value 2) (at fs 0) ∷ in_range s (nat_lt (at fs 1).value n) (at fs 1) ∷ []
+channel_rules n s fs = in_range s (nat_lt (value_of (at fs 0)) 2) (at fs 0) ∷ in_range s (nat_lt (value_of (at fs 1)) n) (at fs 1) ∷ []
 
 -- the fields that each kind uses
 abbrev pub uses_target : ℕ → Bool
@@ -66,7 +75,7 @@ uses_channel k = k == 10 || k == 11
 -- an instruction record: a known kind, and no field that it lacks
 abbrev pub kind_rules : Site → List Field → List Rule
 kind_rules s fs =
-    let k = (at fs 0).value in
+    let k = value_of (at fs 0) in
     in_range s (nat_le k 12) (at fs 0)
     ∷ wanted s (uses_target k) (at fs 1)
     ∷ wanted s (uses_first k) (at fs 2)
@@ -83,11 +92,11 @@ suits cs k v = cond (k == 10) (directed In cs (length cs) v) (cond (k == 11) (di
 -- then the other ranges, in a script with the channels cs and m instructions
 abbrev pub range_rules : List Channel → ℕ → Site → List Field → List Rule
 range_rules cs m s fs =
-    in_range s (nat_lt (at fs 1).value 16) (at fs 1)
-    ∷ in_range s (nat_lt (at fs 2).value 16) (at fs 2)
-    ∷ in_range s (nat_lt (at fs 3).value 16) (at fs 3)
-    ∷ in_range s (nat_le (at fs 5).value m) (at fs 5)
-    ∷ in_range s (suits cs (at fs 0).value (at fs 6).value) (at fs 6)
+    in_range s (nat_lt (value_of (at fs 1)) 16) (at fs 1)
+    ∷ in_range s (nat_lt (value_of (at fs 2)) 16) (at fs 2)
+    ∷ in_range s (nat_lt (value_of (at fs 3)) 16) (at fs 3)
+    ∷ in_range s (nat_le (value_of (at fs 5)) m) (at fs 5)
+    ∷ in_range s (suits cs (value_of (at fs 0)) (value_of (at fs 6))) (at fs 6)
     ∷ []
 
 abbrev pub instruction_rules : List Channel → ℕ → Site → List Field → List Rule

@@ -5,11 +5,12 @@ ghost use Rattle.format.specs.Reading.{channel_of, direction_of, read_record};
 ghost use Rattle.format.specs.Rules.{channel_rules, not_zero};
 ghost use Rattle.field.specs.Outcomes.{Is, Keeps, Shrinks};
 
-use field::{byte_field, check_below, check_nonzero, fault_at, has_bit};
+use field::{check_below, check_zeros, has_bit, read_field};
 use format::layout::{Field, Site};
 use refusal::{Fault, Refusal};
 use script::parts::{Channel, Direction};
 
+// The rules have judged the number, so none is refused here.
 fn direction(code: u32) -> Direction
     ensures { result ≡ direction_of code }
 {
@@ -24,8 +25,7 @@ fn direction(code: u32) -> Direction
 fn check_channel(site: Site, levels: u8, direction: Field, level: Field) -> Result<(), Fault>
     ensures { Keeps (each (not_zero site) (direction ∷ level ∷ []) ++ channel_rules levels site (direction ∷ level ∷ [])) result }
 {
-    check_nonzero(site, direction)?;
-    check_nonzero(site, level)?;
+    check_zeros(site, &[direction, level])?;
     check_below(site, direction, 2)?;
     check_below(site, level, levels as u32)
 }
@@ -40,18 +40,18 @@ pub fn read_channel<'a>(
     ensures is { Is (read_record channel_widths (channel_rules levels) channel_of site bytes.now) result }
 {
     let [map, rest @ ..] = bytes else {
-        return Err(fault_at(site, Refusal::Short, site.length));
+        return Err(site.fault(Refusal::Short, site.length));
     };
     if *map >= 4 {
-        return Err(fault_at(site, Refusal::Map, site.map_at));
+        return Err(site.fault(Refusal::Map, site.map_at));
     }
-    let (code, rest) = byte_field(site, has_bit(*map, 0), rest)?;
-    let (level, rest) = byte_field(site, has_bit(*map, 1), rest)?;
+    let (code, rest) = read_field::<u8>(site, has_bit(*map, 0), rest)?;
+    let (level, rest) = read_field::<u8>(site, has_bit(*map, 1), rest)?;
     check_channel(site, levels, code, level)?;
     Ok((
         Channel {
-            direction: direction(code.value),
-            level: level.value as u8,
+            direction: direction(code.number()),
+            level: level.number() as u8,
         },
         rest,
     ))
