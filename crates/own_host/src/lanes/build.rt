@@ -1,10 +1,11 @@
 // How a host gets its channels.
-ghost use Rattle.std.specs.Prelude.{◌≡◌, ◌<◌, length};
-ghost use Rattle.own_host.specs.Added.{after_add, no_channels, Told};
-ghost use Rattle.own_host.specs.Lanes.{channels_of, contents, room};
+ghost use Rattle.std.specs.Prelude.{◌≡◌};
+ghost use Rattle.own_host.specs.Added.{Told, after_add, no_channels};
+ghost use Rattle.own_host.specs.Lanes.{channels_of};
+ghost use Rattle.own_host.specs.declared.lanes.build.Unmade.TheVariants.{Memory};
 
 use super::{HeapHost, Lane};
-use std::alloc::Global;
+use std::alloc::{AllocError, AllocFailed, Global};
 
 // Why a channel was not added.
 #[derive(Clone, Copy, PartialEq, Eq, Debug)]
@@ -17,6 +18,22 @@ pub enum Unmade {
     Memory,
 }
 
+impl From<AllocError> for Unmade {
+    ghost from_gives = { λ _ r. r ≡ Memory };
+
+    fn from(_e: AllocError) -> Unmade {
+        Unmade::Memory
+    }
+}
+
+impl<T: Drop> From<AllocFailed<T>> for Unmade {
+    ghost from_gives = { λ _ r. r ≡ Memory };
+
+    fn from(_e: AllocFailed<T>) -> Unmade {
+        Unmade::Memory
+    }
+}
+
 impl HeapHost {
     pub fn new(heap: Global) -> HeapHost
         ensures { channels_of result ≡ no_channels }
@@ -24,18 +41,6 @@ impl HeapHost {
         HeapHost {
             lanes: Vec::new(heap),
         }
-    }
-
-    // Only memory can be short.
-    fn append(&mut self, lane: Lane) -> Result<(), Unmade>
-        requires { length self.old.lanes.items < 16 }
-        ensures after { channels_of self.new ≡ after_add (channels_of self.old) (room lane) (contents lane) result }
-        ensures why { Told 0 1 result }
-    {
-        if self.lanes.push(lane).is_err() {
-            return Err(Unmade::Memory);
-        }
-        Ok(())
     }
 
     // One channel more, which begins with these values, even with more than the capacity allows.
@@ -46,12 +51,11 @@ impl HeapHost {
         if self.lanes.len() >= 16 {
             return Err(Unmade::Channels);
         }
-        if capacity == 0 || capacity > 65535 {
+        if !(1..=65535).contains(&capacity) {
             return Err(Unmade::Capacity);
         }
-        match Lane::new(heap, capacity, values) {
-            Ok(lane) => self.append(lane),
-            Err(_) => Err(Unmade::Memory),
-        }
+        let lane = Lane::new(heap, capacity, values)?;
+        self.lanes.push(lane)?;
+        Ok(())
     }
 }

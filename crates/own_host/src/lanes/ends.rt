@@ -1,9 +1,9 @@
-// One lane.
-ghost use Rattle.std.specs.Prelude.{◌≡◌, ◌-◌, ◌<◌, ◌≤◌, true, false, [], ◌∷◌, ◌++◌, length, IfOk};
-ghost use Rattle.host.specs.Channels.{oldest, rest};
-ghost use Rattle.own_host.specs.Lanes.{contents};
+// One lane: how it is made, and its two ends.
+ghost use Rattle.std.specs.Prelude.{◌≡◌, ◌≤◌, IfOk};
+ghost use Rattle.own_host.specs.Lanes.{contents, room};
 
 use crate::lanes::Lane;
+use host::queues::ChannelQueue;
 use refusal::Refusal;
 use std::alloc::{AllocError, Global};
 use std::collections::VecDeque;
@@ -22,49 +22,32 @@ impl Lane {
             capacity,
         })
     }
+}
 
-    pub(crate) fn len(&self) -> usize
-        ensures { result ≡ length (contents self.now) }
-    {
+impl ChannelQueue for Lane {
+    ghost list = { contents };
+
+    ghost capacity = { room };
+
+    fn len(&self) -> usize {
         self.values.len()
     }
 
-    // How many more values fit, but at least 0.
-    pub(crate) fn space(&self) -> usize
-        ensures { result ≡ self.now.capacity - length (contents self.now) }
-    {
+    fn space(&self) -> usize {
         self.capacity.saturating_sub(self.len())
     }
 
-    pub(crate) fn is_full(&self) -> bool
-        ensures full { result ≡ true → self.now.capacity ≤ length (contents self.now) }
-        ensures room { result ≡ false → length (contents self.now) < self.now.capacity }
-    {
-        self.len() >= self.capacity
-    }
-
-    pub(crate) fn is_empty(&self) -> bool
-        ensures none { result ≡ true → length (contents self.now) ≡ 0 }
-        ensures some { result ≡ false → 0 < length (contents self.now) }
-    {
-        self.len() == 0
-    }
-
-    // The value goes to the end, into memory that was set aside.
-    pub(crate) fn push(&mut self, value: i32)
-        requires { length (contents self.old) < self.old.capacity }
-        ensures items { contents self.new ≡ contents self.old ++ (value ∷ []) }
-        ensures capacity { self.new.capacity ≡ self.old.capacity }
-    {
+    // Into memory that was set aside.
+    fn push(&mut self, value: i32) -> Result<(), Refusal> {
+        if self.len() >= self.capacity {
+            return Err(Refusal::Full);
+        }
         self.values.push_back_reserved(value);
+        Ok(())
     }
 
-    // The oldest value comes out.
-    pub(crate) fn pop(&mut self) -> Result<i32, Refusal>
-        ensures answer { result ≡ oldest (contents self.old) }
-        ensures items { contents self.new ≡ rest (contents self.old) }
-        ensures capacity { self.new.capacity ≡ self.old.capacity }
-    {
+    // `remove` says that it leaves an empty lane as it is, and `pop_front` does not.
+    fn pop(&mut self) -> Result<i32, Refusal> {
         self.values.remove(0).ok_or(Refusal::Empty)
     }
 }

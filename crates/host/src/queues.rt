@@ -1,0 +1,77 @@
+// Channels that stand in a row, each with a queue of its own: what a call on one of them answers and leaves.
+ghost use Rattle.std.specs.Prelude.{◌≡◌, ℕ, ℤ, ◌-◌, ◌<◌, ◌≤◌, List, [], ◌∷◌, ◌++◌, length, MatchResult};
+ghost use Rattle.host.specs.Channels.{IfRefused, after_put, after_take, lacking, oldest, on_ok, push_answer, put_answer, rest, stored, take_answer};
+ghost use Rattle.host.specs.Queues.{queued};
+ghost use Rattle.refusal.specs.declared.Refusal.TheVariants.{Channel};
+
+use refusal::Refusal;
+
+// The queue of one channel: at most `capacity` values, oldest first, but it may begin with more.
+pub trait ChannelQueue {
+    ghost list: { Self → List ℤ };
+
+    ghost capacity: { Self → ℕ };
+
+    fn len(&self) -> usize
+        ensures { result ≡ length (list self.now) };
+
+    // How many more values fit, but at least 0.
+    fn space(&self) -> usize
+        ensures { result ≡ capacity self.now - length (list self.now) };
+
+    // The value goes to the end, where it fits.
+    fn push(&mut self, value: i32) -> Result<(), Refusal>
+        ensures answer { result ≡ push_answer (capacity self.old) (list self.old) }
+        ensures after { list self.new ≡ on_ok result (list self.old ++ (value ∷ [])) (list self.old) }
+        ensures size { capacity self.new ≡ capacity self.old }
+        ensures refused { IfRefused result (self.new ≡ self.old) };
+
+    // The oldest value comes out, if there is one.
+    fn pop(&mut self) -> Result<i32, Refusal>
+        ensures answer { result ≡ oldest (list self.old) }
+        ensures after { list self.new ≡ rest (list self.old) }
+        ensures size { capacity self.new ≡ capacity self.old }
+        ensures refused { IfRefused result (self.new ≡ self.old) };
+}
+
+// Where the channel's queue stands.
+fn place<Q>(queues: &[Q], channel: u8) -> Result<usize, Refusal>
+    ensures { MatchResult result (λ i. (i ≡ channel) × (channel < length queues.now)) (λ e. (e ≡ Channel) × (length queues.now ≤ channel)) }
+{
+    if channel as usize >= queues.len() {
+        return Err(Refusal::Channel);
+    }
+    Ok(channel as usize)
+}
+
+pub fn held<Q: ChannelQueue>(queues: &[Q], channel: u8) -> Result<usize, Refusal>
+    ensures { (k : ℕ) → result ≡ stored (queued Q.list Q.capacity k queues.now) channel }
+{
+    let at = place(queues, channel)?;
+    Ok(queues[at].len())
+}
+
+pub fn space<Q: ChannelQueue>(queues: &[Q], channel: u8) -> Result<usize, Refusal>
+    ensures { (k : ℕ) → result ≡ lacking (queued Q.list Q.capacity k queues.now) channel }
+{
+    let at = place(queues, channel)?;
+    Ok(queues[at].space())
+}
+
+pub fn put<Q: ChannelQueue>(queues: &mut [Q], channel: u8, value: i32) -> Result<(), Refusal>
+    ensures answer { (k : ℕ) → result ≡ put_answer (queued Q.list Q.capacity k queues.old) channel }
+    ensures after { (k : ℕ) → queued Q.list Q.capacity k queues.new ≡ after_put (queued Q.list Q.capacity k queues.old) channel value }
+    ensures refused { IfRefused result (queues.new ≡ queues.old) }
+{
+    let at = place(queues, channel)?;
+    queues[at].push(value)
+}
+
+pub fn take<Q: ChannelQueue>(queues: &mut [Q], channel: u8) -> Result<i32, Refusal>
+    ensures answer { (k : ℕ) → result ≡ take_answer (queued Q.list Q.capacity k queues.old) channel }
+    ensures after { (k : ℕ) → queued Q.list Q.capacity k queues.new ≡ after_take (queued Q.list Q.capacity k queues.old) channel }
+    ensures refused { IfRefused result (queues.new ≡ queues.old) }
+{
+    let at = place(queues, channel)?;
+    queues[at].pop()
+}
