@@ -1,43 +1,61 @@
 -- Tables of values and of records, read at a place. Assumes nothing.
-use Rattle.std.proofs.Common.{◌≡◌, ℕ, zero, suc, ◌<◌, ◌≤◌, Bool, true, false, cond, eqb, List, [], ◌∷◌, map, length, get_or, take, set, ℤ, pos, Some, sym, refl, ap, ◌∙◌, arith}
+use Rattle.std.proofs.Common.{◌≡◌, ℕ, zero, suc, ◌<◌, Bool, ◌&&◌, ltb, nat_lt, cond, eqb, List, [], ◌∷◌, map, length, get_or, set, ℤ, Some, None, Option, Bor, sym, refl, ap, ap₂, ◌∙◌}
 use mathlib.Core.Path.{fun_ext}
-use lib.ListN.{length-map}
-use Rattle.std.proofs.lemmas.List.{get_or_past}
+use Rattle.std.specs.List.{slice_get}
+use Rattle.std.specs.Option.{IfSome, is_some, option_copied}
+use Rattle.std.proofs.lemmas.Bool.{lt-ltb, ltb-true, ltb-false}
+use Rattle.std.proofs.lemmas.Option.{slice_get_past, slice_get_read}
 use Rattle.host.proofs.Lists.{at_is, at_set}
 use Rattle.meaning.specs.Copies.{Copy, first, nth, with_at}
-use Rattle.copies.specs.Held.{Stepped, copies_of, copy_of, steps_of}
-use Rattle.copies.specs.declared.replica.Replica.{Replica}
+use Rattle.copies.specs.Held.{Moved, Stepped, can_assign, can_read, can_step, copies_of, copy_in, may_assign, may_read, may_step, steps_in, steps_of}
 use Rattle.copies.specs.declared.table.Copies.{Copies}
+use Rattle.copies.specs.declared.table.LevelCopy.{LevelCopy}
 
--- what stands within the first n
-pub nth_within : (vs : List ℤ) (n i : ℕ) → i < n → n ≤ length vs → nth (take n vs) i ≡ Some (get_or vs i (pos 0))
-nth_within [] n i p h = absurd (omega arith)
-nth_within (v ∷ vs) zero i p h = absurd (omega arith)
-nth_within (v ∷ vs) (suc n) zero p h = refl
-nth_within (v ∷ vs) (suc n) (suc i) p h = nth_within vs n i (omega arith) (omega arith)
+-- a value of a list, if it is as long
+nth_is : (vs : List ℤ) (i : ℕ) → slice_get vs i ≡ nth vs i
+nth_is [] i = refl
+nth_is (v ∷ vs) zero = refl
+nth_is (v ∷ vs) (suc i) = nth_is vs i
+
+-- what was looked up in a slice, copied
+pub looked_up : (o : Option (Bor ℤ)) (vs : List ℤ) (i : ℕ) → is_some o ≡ ltb i (length vs) → IfSome o (λ x. x.now ≡ get_or vs i x.now) →
+    option_copied o ≡ nth vs i
+looked_up None vs i past h = sym (slice_get_past vs i (ltb-false i (length vs) (sym past))) ∙ nth_is vs i
+looked_up (Some x) vs i inside h = sym (slice_get_read vs (length vs) i x.now refl (ltb-true i (length vs) (sym inside)) h) ∙ nth_is vs i
 
 -- an element that was read, seen through f, is what the table seen through f has there
 pub read_as : {A B : Type 0} (f : A → B) (l : List A) (i : ℕ) (x : A) (z : B) → i < length l → x ≡ get_or l i x → f (get_or l i x) ≡ get_or (map f l) i z
 read_as f l i x z h e = ap f (sym e) ∙ sym (at_is f l i x z h e)
 
--- past the table there is a copy as it begins
-pub past_table : (rs : List Replica) (l : ℕ) → length rs ≤ l → get_or (map copy_of rs) l first ≡ first
-past_table rs l past = get_or_past (map copy_of rs) l first (simp length-map past)
+-- where an element changes in its place, the table seen through f changes there
+pub changes : {A B : Type 0} (f : A → B) (l : List A) (i : ℕ) (x : A) (y z : B) → i < length l → f x ≡ y →
+    ◌≡◌ {A = ℕ → B} (λ d. get_or (map f (set l i x)) d z) (with_at (λ d. get_or (map f l) d z) i y)
+changes f l i x y z lt e = fun_ext (λ d. at_set f l i x z lt d ∙ ap (λ v. cond (eqb d i) v (get_or (map f l) d z)) e)
 
--- a copy that changes in its place of the table changes at its level
-pub changes : (rs : List Replica) (l : ℕ) (r : Replica) (x : Copy) → l < length rs → copy_of r ≡ x →
-    ◌≡◌ {A = ℕ → Copy} (λ d. get_or (map copy_of (set rs l r)) d first) (with_at (λ d. get_or (map copy_of rs) d first) l x)
-changes rs l r x lt e = fun_ext (λ d. at_set copy_of rs l r first lt d ∙ ap (λ (y : Copy). cond (eqb d l) y (get_or (map copy_of rs) d first)) e)
+-- a copy that was read where it stands
+module _ (t : Copies) (l : ℕ) (small : l < 16) (x : LevelCopy) (inside : l < length t.copies) (is : x ≡ get_or t.copies l x) where
+  abbrev here : LevelCopy
+  here = get_or t.copies l x
 
--- a copy that changed, and then its count of steps, made one step
-pub stepped : (t u w : Copies) (l : ℕ) (x : Copy) → copies_of u ≡ with_at (copies_of t) l x → u.steps ≡ t.steps → w.replicas ≡ u.replicas →
-    steps_of w ≡ with_at (steps_of u) l (suc (steps_of u l)) → Stepped t w l x
-stepped t u w l x changed still same more =
-    record {
-      copies = ap {B = ℕ → Copy} (λ (rs : List Replica) (d : ℕ). get_or (map copy_of rs) d first) same ∙ changed;
-      steps = more ∙ ap {B = ℕ → ℕ} (λ (ns : List ℕ). with_at (λ d. get_or ns d 0) l (suc (get_or ns l 0))) still;
-    }
+  pub same_copy : copy_in here ≡ copies_of t l
+  same_copy = read_as copy_in t.copies l x first inside is
 
--- no test says both
-pub both : {A : Type 0} (x : Bool) → x ≡ true → x ≡ false → A
-both x t f = let z : ◌≡◌ {A = ℕ} 0 1 = cc in absurd (omega arith)
+  same_steps : steps_in here ≡ steps_of t l
+  same_steps = read_as steps_in t.copies l x 0 inside is
+
+  -- may do what the table says that it may
+  pub steps_too : can_step here ≡ may_step t l
+  steps_too = ap (λ n. nat_lt n 4294967295) same_steps ∙ sym (ap (λ b. b && nat_lt (steps_of t l) 4294967295) (lt-ltb l 16 small))
+
+  pub assigns_too : (i : ℕ) → can_assign here i ≡ may_assign t l i
+  assigns_too i = ap₂ (λ (b : Bool) (c : Copy). b && (nat_lt i 16 && nat_lt c.next 65535)) steps_too same_copy
+
+  pub reads_too : (i k : ℕ) → can_read here i k ≡ may_read t l i k
+  reads_too i k = ap₂ (λ (b : Bool) (c : Copy). b && (nat_lt k 16 && nat_lt (c.positions k) 255)) (assigns_too i) same_copy
+
+  -- and its step is the step of the table
+  pub stepped : (y : LevelCopy) (f : Copy → Copy) → Moved here y (f (copy_in here)) → Stepped t (record { copies = set t.copies l y }) l (f (copies_of t l))
+  stepped y f m = record {
+    copies = changes copy_in t.copies l y _ first inside (m.copy ∙ ap f same_copy);
+    steps = changes steps_in t.copies l y _ 0 inside (m.steps ∙ ap suc same_steps);
+  }

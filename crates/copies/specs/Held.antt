@@ -3,6 +3,7 @@ use Rattle.std.specs.Prelude.{◌≡◌, ℕ, suc, Bool, ◌&&◌, List, [], map
 use Rattle.meaning.specs.Copies.{Copy, first, with_at}
 use Rattle.copies.specs.declared.replica.Replica.{Replica}
 use Rattle.copies.specs.declared.table.Copies.{Copies}
+use Rattle.copies.specs.declared.table.LevelCopy.{LevelCopy}
 use Rattle.copies.specs.declared.tapes.Tape.{Tape}
 use Rattle.copies.specs.declared.tapes.Tapes.{Tapes}
 
@@ -10,12 +11,36 @@ use Rattle.copies.specs.declared.tapes.Tapes.{Tapes}
 abbrev pub copy_of : Replica → Copy
 copy_of r = record { next = r.next; registers = λ i. slice_index_or r.registers i (pos 0); positions = λ k. slice_index r.positions k }
 
--- the copy at each level, and its own steps
+-- the copy of a level, and its own steps
+abbrev pub copy_in : LevelCopy → Copy
+copy_in c = copy_of c.copy
+
+abbrev pub steps_in : LevelCopy → ℕ
+steps_in c = c.steps
+
+-- the same at each level
 abbrev pub copies_of : Copies → ℕ → Copy
-copies_of t l = slice_index_or (map copy_of t.replicas) l first
+copies_of t l = slice_index_or (map copy_in t.copies) l first
 
 abbrev pub steps_of : Copies → ℕ → ℕ
-steps_of t l = slice_index t.steps l
+steps_of t l = slice_index_or (map steps_in t.copies) l 0
+
+-- from c to d the copy of a level made one step and is now x
+pub record Moved (c d : LevelCopy) (x : Copy) : Type 0 where
+  pub copy : copy_in d ≡ x
+  pub steps : d.steps ≡ suc c.steps
+
+-- one step more of it can be counted
+abbrev pub can_step : LevelCopy → Bool
+can_step c = nat_lt c.steps 4294967295
+
+-- and there is a register i, and a place after the copy's own
+abbrev pub can_assign : LevelCopy → ℕ → Bool
+can_assign c i = can_step c && (nat_lt i 16 && nat_lt (copy_in c).next 65535)
+
+-- and there is a channel k, and a position after the copy's own
+abbrev pub can_read : LevelCopy → ℕ → ℕ → Bool
+can_read c i k = can_assign c i && (nat_lt k 16 && nat_lt ((copy_in c).positions k) 255)
 
 -- from t to u the copy at level l made one step and is now c, and no other copy changed
 pub record Stepped (t u : Copies) (l : ℕ) (c : Copy) : Type 0 where

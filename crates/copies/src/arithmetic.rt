@@ -1,40 +1,23 @@
 // What the computing instructions give.
-ghost use Rattle.std.specs.Prelude.{◌≡◌, ◌&&◌, ℤ};
-ghost use Rattle.meaning.specs.Arithmetic.{quotient_of, remainder_of, result_of, too_large};
+ghost use Rattle.std.specs.Prelude.{◌≡◌, ℤ};
+ghost use Rattle.meaning.specs.Arithmetic.{quotient_of, remainder_of, result_of};
 
 use script::parts::Operation;
 
-// The quotient of these two alone has more than 32 bits.
-fn is_too_large(a: i32, b: i32) -> bool
-    ensures { result ≡ too_large a b }
-{
-    a == i32::MIN && b == -1
-}
-
+// The quotient of the least value by -1 has more than 32 bits, and wraps to the least value.
 fn quotient(a: i32, b: i32) -> i32
     ensures { result ≡ quotient_of a b }
 {
-    if b == 0 {
-        0
-    } else if is_too_large(a, b) {
-        i32::MIN
-    } else {
-        a / b
-    }
+    if b == 0 { 0 } else { a.wrapping_div(b) }
 }
 
 fn remainder(a: i32, b: i32) -> i32
     ensures { result ≡ remainder_of a b }
 {
-    if b == 0 {
-        a
-    } else if is_too_large(a, b) {
-        0
-    } else {
-        a % b
-    }
+    if b == 0 { a } else { a.wrapping_rem(b) }
 }
 
+#[tactic(auto, using(std::proofs::lemmas::Int::wraps))]
 pub fn apply(operation: Operation, a: i32, b: i32) -> i32
     ensures { result ≡ result_of operation a b }
 {

@@ -1,11 +1,18 @@
 // The copies of a script at all levels.
 use crate::replica::Replica;
 
+mod level_copy;
 pub mod levels;
 
-// A copy for each level, and its own steps.
+// A copy, and its own steps: 88 bytes.
+#[derive(Clone, Copy)]
+pub(crate) struct LevelCopy {
+    copy: Replica,
+    steps: u32,
+}
+
+// A copy for each level.
 #[derive(Clone, Copy)]
 pub struct Copies {
-    replicas: [Replica; 16],
-    steps: [u32; 16],
+    copies: [LevelCopy; 16],
 }

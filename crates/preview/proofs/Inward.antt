@@ -1,6 +1,11 @@
 -- What is answered about a channel, by what the script says of it. Assumes nothing.
-use Rattle.std.proofs.Common.{◌≡◌, ℕ, ◌<◌, ◌≤◌, Bool, true, false, cond, ◌&&◌, nat_lt, List, length, ℤ, Ok, Err, Result, sym, refl, ap, ◌∙◌, arith}
-use Rattle.std.proofs.lemmas.Bool.{lt-ltb, le-ltb, ltb-true, and_parts}
+use Rattle.std.proofs.Common.{◌≡◌, ℕ, ◌<◌, ◌≤◌, Bool, true, false, cond, nat_lt, List, length, take, get_or, ℤ, Ok, Err, Result, sym, refl, ap, ◌∙◌, arith}
+use Rattle.std.proofs.lemmas.Bool.{lt-ltb, le-ltb, ltb-true}
+use Rattle.std.proofs.lemmas.List.{get_or-take, get_or_default, length-take-le}
+use Rattle.script.specs.Laws.{blank, same}
+use Rattle.script.specs.declared.parts.Channel.{Channel as AChannel}
+use Rattle.script.specs.declared.parts.Direction.{Direction as ADirection}
+use Rattle.script.specs.declared.parts.Direction.TheVariants.{Out}
 use Rattle.refusal.specs.declared.Refusal.{Refusal}
 use Rattle.refusal.specs.declared.Refusal.TheVariants.{Channel, Direction, Full}
 use Rattle.host.specs.Channels.{push_answer}
@@ -15,20 +20,26 @@ Judged = Result (Unit {0}) Refusal
 abbrev judged : Bool → Bool → Judged → Judged
 judged inside out r = cond inside (cond out (Err Direction) r) (Err Channel)
 
-module _ (sc : Program) (k : ℕ) (r : Judged) where
-  -- a channel that the script has not
-  pub no_channel : sc.channel_count ≤ k → Err Channel ≡ of_inward sc k r
-  no_channel past = sym (ap (λ b. judged b (outward_at sc k) r) (le-ltb k sc.channel_count past))
+-- what was looked up among the channels that count
+module _ (sc : Program) (k : ℕ) (full : sc.channel_count ≤ length sc.channels) where
+  -- nothing: the script has no such channel
+  pub no_channel : length (take sc.channel_count sc.channels) ≤ k → Err Channel ≡ give_answer sc k
+  no_channel past =
+      let above : sc.channel_count ≤ k = simp length-take-le at past in
+      sym (ap (λ b. judged b (outward_at sc k) (Ok tt)) (le-ltb k sc.channel_count above))
 
-  -- one by which values go out
-  pub out_channel : k < sc.channel_count → outward_at sc k ≡ true → Err Direction ≡ of_inward sc k r
-  out_channel below out =
-      sym (ap (λ b. judged b (outward_at sc k) r) (lt-ltb k sc.channel_count below) ∙ ap (λ b. judged true b r) out)
+  -- a channel
+  module _ (x : AChannel) (is : x ≡ get_or (take sc.channel_count sc.channels) k x) (inside : k < length (take sc.channel_count sc.channels)) where
+    below : k < sc.channel_count
+    below = simp length-take-le at inside
 
-  -- and one by which they come in
-  pub in_channel : k < sc.channel_count → outward_at sc k ≡ false → r ≡ of_inward sc k r
-  in_channel below inward =
-      sym (ap (λ b. judged b (outward_at sc k) r) (lt-ltb k sc.channel_count below) ∙ ap (λ b. judged true b r) inward)
+    found : x ≡ get_or sc.channels k blank
+    found = is ∙ get_or-take sc.channel_count sc.channels k x below ∙ get_or_default sc.channels k x blank (omega (arith, below))
+
+    pub some_channel : (d : ADirection) → x.direction ≡ d → judged true (same Out d) (Ok tt) ≡ give_answer sc k
+    some_channel d e =
+        ap (λ (y : ADirection). judged true (same Out y) (Ok tt)) (sym e ∙ ap (λ (y : AChannel). y.direction) found)
+        ∙ sym (ap (λ b. judged b (outward_at sc k) (Ok tt)) (lt-ltb k sc.channel_count below))
 
 -- what refuses a give refuses all else
 refused_by : (inside out : Bool) (r : Judged) (e : Refusal) → Err e ≡ judged inside out (Ok tt) → Err e ≡ judged inside out r
@@ -59,17 +70,8 @@ inside_by true out h = refl
 pub accepted_inside : (sc : Program) (k : ℕ) → Ok tt ≡ give_answer sc k → k < sc.channel_count
 accepted_inside sc k h = ltb-true k sc.channel_count (inside_by (nat_lt k sc.channel_count) (outward_at sc k) h)
 
--- an add to a list that is full, where a give would be accepted
-pub full_list : (sc : Program) (k : ℕ) (list : ℕ → List ℤ) → sc.channel_count ≤ 16 → Ok tt ≡ give_answer sc k →
-    false ≡ (nat_lt k 16 && nat_lt (length (list k)) 64) → Err Full ≡ add_answer sc list k
-full_list sc k list few h e =
-    let below : k < sc.channel_count = accepted_inside sc k h in
-    let full : false ≡ nat_lt (length (list k)) 64 = e ∙ ap (λ b. b && nat_lt (length (list k)) 64) (lt-ltb k 16 (omega arith)) in
-    ap (λ (b : Bool). cond b (Ok tt) (Err Full)) full ∙ accepted_then sc k (push_answer 64 (list k)) h
-
--- and to one that has room
-pub roomy_list : (sc : Program) (k : ℕ) (list : ℕ → List ℤ) → Ok tt ≡ give_answer sc k →
-    true ≡ (nat_lt k 16 && nat_lt (length (list k)) 64) → Ok tt ≡ add_answer sc list k
-roomy_list sc k list h e =
-    let room = (and_parts (nat_lt k 16) (nat_lt (length (list k)) 64) (sym e)).1 in
-    ap (λ (b : Bool). cond b (Ok tt) (Err Full)) (sym room) ∙ accepted_then sc k (push_answer 64 (list k)) h
+-- an add where a give would be accepted, by whether the list has room
+pub room_decides : (sc : Program) (k : ℕ) (list : ℕ → List ℤ) (vs : List ℤ) (room : Bool) → Ok tt ≡ give_answer sc k → vs ≡ list k →
+    room ≡ nat_lt (length vs) 64 → ◌≡◌ {A = Judged} (cond room (Ok tt) (Err Full)) (add_answer sc list k)
+room_decides sc k list vs room h e r =
+    ap (λ (b : Bool). cond b (Ok tt) (Err Full)) (r ∙ ap (λ (l : List ℤ). nat_lt (length l) 64) e) ∙ accepted_then sc k (push_answer 64 (list k)) h

@@ -1,20 +1,26 @@
 -- What a plain run holds, and what its calls answer. Assumes nothing.
-use Rattle.std.specs.Prelude.{ℕ, Bool, false, cond, List, ℤ, Ok, Err, Result, nat_lt, slice_index_or}
+use Rattle.std.specs.Prelude.{ℕ, Bool, false, cond, List, [], map, ℤ, Some, None, Option, Ok, Err, Result, is_some, nat_lt, slice_index_or}
 use Rattle.refusal.specs.declared.Refusal.{Refusal}
 use Rattle.refusal.specs.declared.Refusal.TheVariants.{Channel, Direction}
-use Rattle.copies.specs.Held.{copy_of, tapes_of}
+use Rattle.copies.specs.Held.{copy_of, tape_of}
+use Rattle.copies.specs.declared.tapes.Tape.{Tape}
 use Rattle.host.specs.Channels.{push_answer}
 use Rattle.meaning.specs.Copies.{Plain}
 use Rattle.meaning.specs.Programs.{Program, outward_at}
 use Rattle.preview.specs.declared.plain_run.PlainRun.{PlainRun}
 
+-- the values that a channel is given, by its list if it has one
+abbrev pub list_in : Option Tape → List ℤ
+list_in (Some t) = tape_of t
+list_in None = []
+
 -- whether channel k is given a list
 abbrev pub given_of : PlainRun → ℕ → Bool
-given_of p k = slice_index_or p.given k false
+given_of p k = slice_index_or (map is_some p.lists) k false
 
 -- the list of each channel
 abbrev pub lists_of : PlainRun → ℕ → List ℤ
-lists_of p = tapes_of p.lists
+lists_of p k = slice_index_or (map list_in p.lists) k []
 
 -- the run whose copy is there, with these values written before
 abbrev pub run_of : PlainRun → (ℕ → List ℤ) → Plain

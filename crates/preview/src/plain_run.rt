@@ -1,8 +1,6 @@
 // A plain run of a script.
-ghost use Rattle.std.specs.Prelude.{◌≡◌, length};
-
 use copies::replica::Replica;
-use copies::tapes::Tapes;
+use copies::tapes::Tape;
 use script::accepted::Script;
 
 pub mod calls;
@@ -12,10 +10,7 @@ pub mod steps;
 #[derive(Clone, Copy)]
 pub struct PlainRun {
     script: Script,
-    // The channels that are given a list; the others are shut.
-    given: [bool; 16],
-    // No copy reads past 64 values, so longer lists need no place.
-    lists: Tapes,
+    // The list of each channel; a channel without one is shut. No copy reads past 64 values, so longer lists need no place.
+    lists: [Option<Tape>; 16],
     copy: Replica,
-    ghost marked: { length given ≡ 16 },
 }

@@ -1,9 +1,12 @@
 // What a copy holds, and how it goes on.
-ghost use Rattle.std.specs.Prelude.{◌≡◌, ◌+◌, ◌<◌, ◌≤◌};
-ghost use Rattle.meaning.specs.Copies.{assign, first, further, go_to};
+ghost use Rattle.std.specs.Prelude.{◌≡◌, ◌+◌, ◌<◌, ◌≤◌, ◌&&◌, true, nat_lt};
+ghost use Rattle.meaning.specs.Copies.{assign, first, further, go_on, go_to};
+ghost use Rattle.copies.specs.Computed.{computed, targets};
 ghost use Rattle.copies.specs.Held.{copy_of};
 
+use crate::arithmetic::apply;
 use crate::replica::Replica;
+use script::parts::Instruction;
 
 impl Replica {
     // A copy as it begins: at instruction 0, with zeros everywhere.
@@ -27,28 +30,42 @@ impl Replica {
     pub fn register(&self, index: u8) -> i32
         ensures { result ≡ (copy_of self.now).registers index }
     {
-        if index < 16 {
-            self.registers[index as usize]
-        } else {
-            0
-        }
+        self.registers.get(index as usize).copied().unwrap_or(0)
     }
 
     // 0 for a channel that there is not.
     pub fn position(&self, channel: u8) -> u8
         ensures { result ≡ (copy_of self.now).positions channel }
     {
-        if channel < 16 {
-            self.positions[channel as usize]
-        } else {
-            0
-        }
+        self.positions.get(channel as usize).copied().unwrap_or(0)
+    }
+
+    // Is there the register, and a place after the copy's own?
+    pub(crate) fn may_assign(&self, target: u8) -> bool
+        ensures { result ≡ (nat_lt target 16 && nat_lt (copy_of self.now).next 65535) }
+    {
+        target < 16 && self.next < u16::MAX
+    }
+
+    // Is there the channel, and a position after the copy's own?
+    pub(crate) fn may_go_further(&self, channel: u8) -> bool
+        ensures { result ≡ (nat_lt channel 16 && nat_lt ((copy_of self.now).positions channel) 255) }
+    {
+        channel < 16 && self.position(channel) < u8::MAX
     }
 
     pub fn go_to(&mut self, next: u16)
         ensures { copy_of self.new ≡ go_to (copy_of self.old) next }
     {
         self.next = next;
+    }
+
+    // The copy goes to the instruction after its own. At the last place it stays.
+    pub fn go_on(&mut self)
+        ensures moved { (copy_of self.old).next < 65535 → copy_of self.new ≡ go_on (copy_of self.old) }
+        ensures last { 65535 ≤ (copy_of self.old).next → self.new ≡ self.old }
+    {
+        self.next = self.next.saturating_add(1);
     }
 
     // The value goes to the register, and the copy goes on. A register that there is not, or a place that has none after
@@ -58,7 +75,7 @@ impl Replica {
         ensures kept { 16 ≤ target → self.new ≡ self.old }
         ensures last { 65535 ≤ self.old.next → self.new ≡ self.old }
     {
-        if target < 16 && self.next < u16::MAX {
+        if self.may_assign(target) {
             self.registers[target as usize] = value;
             self.next += 1;
         }
@@ -70,21 +87,51 @@ impl Replica {
         ensures kept { 16 ≤ channel → self.new ≡ self.old }
         ensures last { 255 ≤ (copy_of self.old).positions channel → self.new ≡ self.old }
     {
-        let k = channel as usize;
-        if channel < 16 && self.positions[k] < u8::MAX {
-            self.positions[k] += 1;
+        if self.may_go_further(channel) {
+            self.positions[channel as usize] += 1;
         }
     }
 
     // The value of a tape goes to the register, and position and copy go on.
-    pub(crate) fn read(&mut self, target: u8, channel: u8, value: i32)
-        requires register { target < 16 }
-        requires early { (copy_of self.old).next < 65535 }
-        requires port { channel < 16 }
-        requires inside { (copy_of self.old).positions channel < 255 }
-        ensures { copy_of self.new ≡ assign (further (copy_of self.old) channel) target value }
+    pub fn read(&mut self, target: u8, channel: u8, value: i32)
+        ensures { target < 16 → (copy_of self.old).next < 65535 → channel < 16 → (copy_of self.old).positions channel < 255 → copy_of self.new ≡ assign (further (copy_of self.old) channel) target value }
     {
         self.further(channel);
         self.assign(target, value);
+    }
+
+    // An instruction that neither takes a value in nor gives one out, in a script that ends at that place.
+    pub fn compute(&mut self, instruction: Instruction, end: u16)
+        ensures { targets instruction ≡ true → (copy_of self.old).next < 65535 → copy_of self.new ≡ computed (copy_of self.old) end instruction }
+    {
+        match instruction {
+            Instruction::Skip => self.go_on(),
+            Instruction::Set { target, number } => self.assign(target, number),
+            Instruction::Compute {
+                operation,
+                target,
+                first,
+                second,
+            } => {
+                let value = apply(operation, self.register(first), self.register(second));
+                self.assign(target, value);
+            }
+            Instruction::Jump { first, place } => {
+                if self.register(first) == 0 {
+                    self.go_on();
+                } else {
+                    self.go_to(place);
+                }
+            }
+            Instruction::Input {
+                target: _,
+                channel: _,
+            }
+            | Instruction::Output {
+                first: _,
+                channel: _,
+            } => {}
+            Instruction::Stop => self.go_to(end),
+        }
     }
 }

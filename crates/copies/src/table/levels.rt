@@ -1,12 +1,14 @@
 // The copy at a level, and its own steps.
 ghost use Rattle.std.specs.Prelude.{◌≡◌, ℕ, suc, ◌<◌, true, false};
-ghost use Rattle.meaning.specs.Copies.{assign, first, further, go_to, with_at};
+ghost use Rattle.meaning.specs.Copies.{assign, first, further, go_to};
+ghost use Rattle.copies.specs.Computed.{computed, targets};
 ghost use Rattle.copies.specs.Held.{Stepped, copies_of, may_assign, may_read, may_step, steps_of};
 
-use crate::replica::Replica;
-use crate::table::Copies;
+use crate::table::{Copies, LevelCopy};
+use script::parts::Instruction;
 
-// Copies are asked and changed where they stand: to copy one out and store it back costs more than a turn does.
+// Copies are asked and changed where they stand: to copy one out and store it back costs more than a turn does. They are
+// changed by `copies[level]`, since of an array that was lent by `get_mut` no more is known than its length.
 impl Copies {
     // Every copy as it begins, and no step done.
     pub fn new() -> Copies
@@ -14,8 +16,7 @@ impl Copies {
         ensures steps { (l : ℕ) → steps_of result l ≡ 0 }
     {
         Copies {
-            replicas: [Replica::first(); 16],
-            steps: [0; 16],
+            copies: [LevelCopy::first(); 16],
         }
     }
 
@@ -24,104 +25,33 @@ impl Copies {
     pub fn next(&self, level: u8) -> u16
         ensures { result ≡ (copies_of self.now level).next }
     {
-        match self.replicas.get(level as usize) {
-            Some(copy) => copy.next(),
-            None => 0,
-        }
+        self.copies
+            .get(level as usize)
+            .map_or(0, |at| at.copy.next())
     }
 
     pub fn register(&self, level: u8, index: u8) -> i32
         ensures { result ≡ (copies_of self.now level).registers index }
     {
-        match self.replicas.get(level as usize) {
-            Some(copy) => copy.register(index),
-            None => 0,
-        }
+        self.copies
+            .get(level as usize)
+            .map_or(0, |at| at.copy.register(index))
     }
 
     // Its position in the channel's tape.
     pub fn position(&self, level: u8, channel: u8) -> u8
         ensures { result ≡ (copies_of self.now level).positions channel }
     {
-        match self.replicas.get(level as usize) {
-            Some(copy) => copy.position(channel),
-            None => 0,
-        }
+        self.copies
+            .get(level as usize)
+            .map_or(0, |at| at.copy.position(channel))
     }
 
     // The number of turns that moved it.
     pub fn steps(&self, level: u8) -> u32
         ensures { result ≡ steps_of self.now level }
     {
-        if level < 16 {
-            self.steps[level as usize]
-        } else {
-            0
-        }
-    }
-
-    // Is there a copy, and can one step more be counted?
-    fn may_step(&self, level: u8) -> bool
-        ensures { result ≡ may_step self.now level }
-    {
-        level < 16 && self.steps(level) < u32::MAX
-    }
-
-    // And is there the register, and a place after the copy's own?
-    fn may_assign(&self, level: u8, target: u8) -> bool
-        ensures { result ≡ may_assign self.now level target }
-    {
-        self.may_step(level) && (target < 16 && self.next(level) < u16::MAX)
-    }
-
-    // And is there the channel, and a position after the copy's own?
-    fn may_read(&self, level: u8, target: u8, channel: u8) -> bool
-        ensures { result ≡ may_read self.now level target channel }
-    {
-        self.may_assign(level, target) && (channel < 16 && self.position(level, channel) < u8::MAX)
-    }
-
-    fn place(&mut self, level: u8, next: u16)
-        requires { level < 16 }
-        ensures copies { copies_of self.new ≡ with_at (copies_of self.old) level (go_to (copies_of self.old level) next) }
-        ensures steps { self.new.steps ≡ self.old.steps }
-    {
-        let l = level as usize;
-        self.replicas[l].go_to(next);
-    }
-
-    fn store(&mut self, level: u8, target: u8, value: i32)
-        requires inside { level < 16 }
-        requires register { target < 16 }
-        requires early { (copies_of self.old level).next < 65535 }
-        ensures copies { copies_of self.new ≡ with_at (copies_of self.old) level (assign (copies_of self.old level) target value) }
-        ensures steps { self.new.steps ≡ self.old.steps }
-    {
-        let l = level as usize;
-        self.replicas[l].assign(target, value);
-    }
-
-    fn store_next(&mut self, level: u8, target: u8, channel: u8, value: i32)
-        requires inside { level < 16 }
-        requires register { target < 16 }
-        requires early { (copies_of self.old level).next < 65535 }
-        requires port { channel < 16 }
-        requires read { (copies_of self.old level).positions channel < 255 }
-        ensures copies { copies_of self.new ≡ with_at (copies_of self.old) level (assign (further (copies_of self.old level) channel) target value) }
-        ensures steps { self.new.steps ≡ self.old.steps }
-    {
-        let l = level as usize;
-        self.replicas[l].read(target, channel, value);
-    }
-
-    fn count(&mut self, level: u8)
-        requires inside { level < 16 }
-        requires fits { steps_of self.old level < 4294967295 }
-        ensures steps { steps_of self.new ≡ with_at (steps_of self.old) level (suc (steps_of self.old level)) }
-        ensures copies { self.new.replicas ≡ self.old.replicas }
-    {
-        let l = level as usize;
-        self.steps[l] += 1;
+        self.copies.get(level as usize).map_or(0, |at| at.steps)
     }
 
     // The copy goes to an instruction, in one step. What may not be done changes nothing, here and below.
@@ -129,9 +59,8 @@ impl Copies {
         ensures done { may_step self.old level ≡ true → Stepped self.old self.new level (go_to (copies_of self.old level) next) }
         ensures kept { may_step self.old level ≡ false → self.new ≡ self.old }
     {
-        if self.may_step(level) {
-            self.place(level, next);
-            self.count(level);
+        if level < 16 {
+            self.copies[level as usize].go_to(next);
         }
     }
 
@@ -140,9 +69,8 @@ impl Copies {
         ensures done { may_assign self.old level target ≡ true → Stepped self.old self.new level (assign (copies_of self.old level) target value) }
         ensures kept { may_assign self.old level target ≡ false → self.new ≡ self.old }
     {
-        if self.may_assign(level, target) {
-            self.store(level, target, value);
-            self.count(level);
+        if level < 16 {
+            self.copies[level as usize].assign(target, value);
         }
     }
 
@@ -151,9 +79,18 @@ impl Copies {
         ensures done { may_read self.old level target channel ≡ true → Stepped self.old self.new level (assign (further (copies_of self.old level) channel) target value) }
         ensures kept { may_read self.old level target channel ≡ false → self.new ≡ self.old }
     {
-        if self.may_read(level, target, channel) {
-            self.store_next(level, target, channel, value);
-            self.count(level);
+        if level < 16 {
+            self.copies[level as usize].read(target, channel, value);
+        }
+    }
+
+    // An instruction that neither takes a value in nor gives one out, in one step, in a script that ends at that place.
+    pub fn compute(&mut self, level: u8, instruction: Instruction, end: u16)
+        ensures done { may_step self.old level ≡ true → targets instruction ≡ true → (copies_of self.old level).next < 65535 → Stepped self.old self.new level (computed (copies_of self.old level) end instruction) }
+        ensures kept { may_step self.old level ≡ false → self.new ≡ self.old }
+    {
+        if level < 16 {
+            self.copies[level as usize].compute(instruction, end);
         }
     }
 }

@@ -7,7 +7,7 @@ ghost use Rattle.copies.specs.Held.{tape_of, tapes_of};
 use crate::tapes::{Tape, Tapes};
 
 impl Tape {
-    fn empty() -> Tape
+    pub fn empty() -> Tape
         ensures { tape_of result ≡ [] }
     {
         Tape {
@@ -16,29 +16,30 @@ impl Tape {
         }
     }
 
-    fn value(&self, at: u8) -> Option<i32>
+    // The value at a position, if the tape is as long.
+    #[tactic(auto, using(crate::proofs::Rows::looked_up))]
+    pub fn value(&self, at: u8) -> Option<i32>
         ensures { result ≡ nth (tape_of self.now) at }
     {
-        if at < self.len {
-            Some(self.values[at as usize])
-        } else {
-            None
-        }
+        self.values[..self.len as usize].get(at as usize).copied()
     }
 
-    fn has_room(&self) -> bool
+    // Can it hold one value more?
+    pub fn has_room(&self) -> bool
         ensures { result ≡ nat_lt (length (tape_of self.now)) 64 }
     {
         self.len < 64
     }
 
-    // A value more.
-    fn push(&mut self, value: i32)
-        requires { length (tape_of self.old) < 64 }
-        ensures { tape_of self.new ≡ tape_of self.old ++ (value ∷ []) }
+    // A value more. A tape of 64 values stays.
+    pub fn push(&mut self, value: i32)
+        ensures added { length (tape_of self.old) < 64 → tape_of self.new ≡ tape_of self.old ++ (value ∷ []) }
+        ensures full { 64 ≤ length (tape_of self.old) → self.new ≡ self.old }
     {
-        self.values[self.len as usize] = value;
-        self.len += 1;
+        if self.has_room() {
+            self.values[self.len as usize] = value;
+            self.len += 1;
+        }
     }
 }
 
@@ -56,25 +57,18 @@ impl Tapes {
     pub fn value(&self, channel: u8, at: u8) -> Option<i32>
         ensures { result ≡ nth (tapes_of self.now channel) at }
     {
-        match self.tapes.get(channel as usize) {
-            Some(tape) => tape.value(at),
-            None => None,
-        }
+        self.tapes
+            .get(channel as usize)
+            .and_then(|tape| tape.value(at))
     }
 
     // Has the channel a tape, and can it hold one value more?
     pub fn has_room(&self, channel: u8) -> bool
         ensures { result ≡ (nat_lt channel 16 && nat_lt (length (tapes_of self.now channel)) 64) }
     {
-        channel < 16 && self.tapes[channel as usize].has_room()
-    }
-
-    fn add(&mut self, channel: u8, value: i32)
-        requires inside { channel < 16 }
-        requires room { length (tapes_of self.old channel) < 64 }
-        ensures { tapes_of self.new ≡ put_on channel value (tapes_of self.old) }
-    {
-        self.tapes[channel as usize].push(value);
+        self.tapes
+            .get(channel as usize)
+            .is_some_and(|tape| tape.has_room())
     }
 
     // A value more on the channel's tape. A channel that there is not, or a tape of 64 values, changes nothing.
@@ -83,8 +77,8 @@ impl Tapes {
         ensures kept { 16 ≤ channel → self.new ≡ self.old }
         ensures full { 64 ≤ length (tapes_of self.old channel) → self.new ≡ self.old }
     {
-        if self.has_room(channel) {
-            self.add(channel, value);
+        if channel < 16 {
+            self.tapes[channel as usize].push(value);
         }
     }
 }

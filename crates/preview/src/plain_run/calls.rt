@@ -1,18 +1,38 @@
 // The calls of a plain run.
-ghost use Rattle.std.specs.Prelude.{◌≡◌, ℕ, ◌<◌, true, false, [], length};
-ghost use Rattle.copies.specs.Held.{copy_of};
+ghost use Rattle.std.specs.Prelude.{◌≡◌, ℕ, ◌<◌, true, false, []};
+ghost use Rattle.copies.specs.Held.{copy_of, tape_of};
 ghost use Rattle.host.specs.Channels.{IfRefused, on_ok};
 ghost use Rattle.meaning.specs.Copies.{first, with_at};
 ghost use Rattle.meaning.specs.Programs.{program};
 ghost use Rattle.meaning.specs.Visits.{put_on};
-ghost use Rattle.preview.specs.Views.{add_answer, give_answer, given_of, lists_of};
+ghost use Rattle.preview.specs.Views.{add_answer, give_answer, given_of, list_in, lists_of};
 
 use crate::plain_run::PlainRun;
 use copies::replica::Replica;
-use copies::tapes::Tapes;
+use copies::tapes::Tape;
 use refusal::Refusal;
 use script::accepted::Script;
 use script::parts::Direction;
+
+// Whether the channel is an in channel of the script.
+fn judge(script: &Script, channel: u8) -> Result<(), Refusal>
+    ensures { result ≡ give_answer (program script.now) channel }
+{
+    match script.channels[..script.channel_count].get(channel as usize) {
+        None => Err(Refusal::Channel),
+        Some(channel) => match channel.direction {
+            Direction::Out => Err(Refusal::Direction),
+            Direction::In => Ok(()),
+        },
+    }
+}
+
+// The list of a channel, empty at first.
+fn begun(list: Option<Tape>) -> Tape
+    ensures { tape_of result ≡ list_in list }
+{
+    list.unwrap_or(Tape::empty())
+}
 
 impl PlainRun {
     // A run as it begins, with every in channel shut.
@@ -24,47 +44,9 @@ impl PlainRun {
     {
         PlainRun {
             script,
-            given: [false; 16],
-            lists: Tapes::new(),
+            lists: [None; 16],
             copy: Replica::first(),
         }
-    }
-
-    // Whether the channel is an in channel of the script.
-    fn judge(&self, channel: u8) -> Result<(), Refusal>
-        ensures { result ≡ give_answer (program self.now.script) channel }
-    {
-        if channel as usize >= self.script.channel_count {
-            return Err(Refusal::Channel);
-        }
-        match self.script.channels[channel as usize].direction {
-            Direction::Out => Err(Refusal::Direction),
-            Direction::In => Ok(()),
-        }
-    }
-
-    // The channel has a list.
-    fn mark(&mut self, channel: u8)
-        requires { channel < 16 }
-        ensures given { given_of self.new ≡ with_at (given_of self.old) channel true }
-        ensures script { self.new.script ≡ self.old.script }
-        ensures lists { self.new.lists ≡ self.old.lists }
-        ensures copy { self.new.copy ≡ self.old.copy }
-    {
-        self.given[channel as usize] = true;
-    }
-
-    // The channel has a list, and it ends with the value.
-    fn append(&mut self, channel: u8, value: i32)
-        requires inside { channel < 16 }
-        requires room { length (lists_of self.old channel) < 64 }
-        ensures given { given_of self.new ≡ with_at (given_of self.old) channel true }
-        ensures lists { lists_of self.new ≡ put_on channel value (lists_of self.old) }
-        ensures script { self.new.script ≡ self.old.script }
-        ensures copy { self.new.copy ≡ self.old.copy }
-    {
-        self.given[channel as usize] = true;
-        self.lists.push(channel, value);
     }
 
     // The channel is given a list, empty at first. One that it had stays.
@@ -72,12 +54,13 @@ impl PlainRun {
         ensures answer { result ≡ give_answer (program self.old.script) channel }
         ensures given { given_of self.new ≡ on_ok result (with_at (given_of self.old) channel true) (given_of self.old) }
         ensures script { self.new.script ≡ self.old.script }
-        ensures lists { self.new.lists ≡ self.old.lists }
+        ensures lists { lists_of self.new ≡ lists_of self.old }
         ensures copy { self.new.copy ≡ self.old.copy }
         ensures refused { IfRefused result (self.new ≡ self.old) }
     {
-        self.judge(channel)?;
-        self.mark(channel);
+        judge(&self.script, channel)?;
+        let list = begun(self.lists[channel as usize]);
+        self.lists[channel as usize] = Some(list);
         Ok(())
     }
 
@@ -90,11 +73,13 @@ impl PlainRun {
         ensures copy { self.new.copy ≡ self.old.copy }
         ensures refused { IfRefused result (self.new ≡ self.old) }
     {
-        self.judge(channel)?;
-        if !self.lists.has_room(channel) {
+        judge(&self.script, channel)?;
+        let mut list = begun(self.lists[channel as usize]);
+        if !list.has_room() {
             return Err(Refusal::Full);
         }
-        self.append(channel, value);
+        list.push(value);
+        self.lists[channel as usize] = Some(list);
         Ok(())
     }
 

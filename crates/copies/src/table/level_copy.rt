@@ -1,0 +1,73 @@
+// A copy that counts its own steps. What may not be done changes nothing.
+ghost use Rattle.std.specs.Prelude.{◌≡◌, ◌<◌, true, false};
+ghost use Rattle.meaning.specs.Copies.{assign, first, further, go_to};
+ghost use Rattle.copies.specs.Computed.{computed, targets};
+ghost use Rattle.copies.specs.Held.{Moved, can_assign, can_read, can_step, copy_in};
+
+use crate::replica::Replica;
+use crate::table::LevelCopy;
+use script::parts::Instruction;
+
+impl LevelCopy {
+    // A copy as it begins, and no step done.
+    pub(crate) fn first() -> LevelCopy
+        ensures copy { copy_in result ≡ first }
+        ensures steps { result.steps ≡ 0 }
+    {
+        LevelCopy {
+            copy: Replica::first(),
+            steps: 0,
+        }
+    }
+
+    // Can one step more be counted?
+    fn can_step(&self) -> bool
+        ensures { result ≡ can_step self.now }
+    {
+        self.steps < u32::MAX
+    }
+
+    // The copy goes to an instruction, in one step.
+    pub(crate) fn go_to(&mut self, next: u16)
+        ensures done { can_step self.old ≡ true → Moved self.old self.new (go_to (copy_in self.old) next) }
+        ensures kept { can_step self.old ≡ false → self.new ≡ self.old }
+    {
+        if self.can_step() {
+            self.copy.go_to(next);
+            self.steps += 1;
+        }
+    }
+
+    // The value goes to the register, and the copy goes on, in one step.
+    pub(crate) fn assign(&mut self, target: u8, value: i32)
+        ensures done { can_assign self.old target ≡ true → Moved self.old self.new (assign (copy_in self.old) target value) }
+        ensures kept { can_assign self.old target ≡ false → self.new ≡ self.old }
+    {
+        if self.can_step() && self.copy.may_assign(target) {
+            self.copy.assign(target, value);
+            self.steps += 1;
+        }
+    }
+
+    // The same with a value of a tape: the position in it moves on too.
+    pub(crate) fn read(&mut self, target: u8, channel: u8, value: i32)
+        ensures done { can_read self.old target channel ≡ true → Moved self.old self.new (assign (further (copy_in self.old) channel) target value) }
+        ensures kept { can_read self.old target channel ≡ false → self.new ≡ self.old }
+    {
+        if self.can_step() && self.copy.may_assign(target) && self.copy.may_go_further(channel) {
+            self.copy.read(target, channel, value);
+            self.steps += 1;
+        }
+    }
+
+    // An instruction that neither takes a value in nor gives one out, in one step.
+    pub(crate) fn compute(&mut self, instruction: Instruction, end: u16)
+        ensures done { can_step self.old ≡ true → targets instruction ≡ true → (copy_in self.old).next < 65535 → Moved self.old self.new (computed (copy_in self.old) end instruction) }
+        ensures kept { can_step self.old ≡ false → self.new ≡ self.old }
+    {
+        if self.can_step() {
+            self.copy.compute(instruction, end);
+            self.steps += 1;
+        }
+    }
+}
