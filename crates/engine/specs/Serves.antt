@@ -6,8 +6,7 @@ use Rattle.meaning.specs.Answers.{Call, Answer}
 use Rattle.meaning.specs.Visits.{Frame, State, respond, same_levels, enough_channels, Plan, go, lacks_value, lacks_space, ended, acted}
 use Rattle.meaning.specs.declared.answers.Act.{Act}
 use Rattle.meaning.specs.declared.answers.Act.TheVariants.{Inner, Took, Reused, Defaulted, Wrote, Withheld}
-use Rattle.meaning.specs.declared.answers.Turned.{Turned}
-use Rattle.meaning.specs.declared.answers.Turned.TheVariants.{Nobody, Moved}
+use Rattle.meaning.specs.declared.answers.Moved.{Moved}
 
 -- the call x of a visit with frame f in state s leaves the frame g and the state t, and is answered by a: the frame stays,
 -- and state and answer are what the meaning gives
@@ -55,7 +54,7 @@ StepMemory puts takes h None j = j ≡ h
 StepMemory puts takes h (Some act) j = Memory puts takes h act j
 
 -- and of a turn
-abbrev pub TurnMemory : {H : Type 0} → (H → ℕ → ℤ → H → Type 0) → (H → ℕ → H → Type 0) → H → Result Turned Refusal → H → Type 0
-TurnMemory puts takes h (Ok Nobody) j = j ≡ h
-TurnMemory puts takes h (Ok (Moved l act)) j = Memory puts takes h act j
+abbrev pub TurnMemory : {H : Type 0} → (H → ℕ → ℤ → H → Type 0) → (H → ℕ → H → Type 0) → H → Result (Option Moved) Refusal → H → Type 0
+TurnMemory puts takes h (Ok None) j = j ≡ h
+TurnMemory puts takes h (Ok (Some m)) j = Memory puts takes h m.act j
 TurnMemory puts takes h (Err e) j = j ≡ h

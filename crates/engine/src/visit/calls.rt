@@ -13,7 +13,7 @@ use crate::visit::Visit;
 use copies::table::Copies;
 use copies::tapes::Tapes;
 use host::calls::Host;
-use meaning::answers::{Standing, Turned};
+use meaning::answers::{Moved, Standing};
 use refusal::Refusal;
 use regime::rules::Regime;
 use script::accepted::Script;
@@ -108,7 +108,7 @@ impl<R: Regime, H: Host> Visit<R, H> {
     }
 
     // One turn: the copy that is picked does one instruction, or nobody moves.
-    pub fn turn(&mut self) -> Result<Turned, Refusal>
+    pub fn turn(&mut self) -> Result<Option<Moved>, Refusal>
         ensures served { Serves R.Regime.order H.Host.channels self.old turns self.new (turned_by result) }
         ensures refused { IfRefused result (self.new ≡ self.old) }
         ensures memory { TurnMemory H.Host.puts H.Host.takes self.old.host result self.new.host }

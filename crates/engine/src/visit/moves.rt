@@ -14,7 +14,7 @@ use crate::visit::Visit;
 use copies::arithmetic::apply;
 use copies::rules::Source;
 use host::calls::Host;
-use meaning::answers::{Act, Turned};
+use meaning::answers::{Act, Moved};
 use regime::rules::Regime;
 use script::parts::Instruction;
 
@@ -206,7 +206,7 @@ impl<R: Regime, H: Host> Visit<R, H> {
     }
 
     // A turn in which that level was picked, or nobody.
-    pub(crate) fn advance(&mut self, level: Option<u8>) -> Turned
+    pub(crate) fn advance(&mut self, level: Option<u8>) -> Option<Moved>
         requires unspent { self.old.turns < 1000000 }
         requires inside { IfSome level (λ l. l < 16) }
         requires enough { self.old.script.channel_count ≤ (H.Host.channels self.old.host).count }
@@ -216,12 +216,8 @@ impl<R: Regime, H: Host> Visit<R, H> {
         ensures memory { TurnMemory H.Host.puts H.Host.takes self.old.host (Ok result) self.new.host }
     {
         self.count_turn();
-        let Some(level) = level else {
-            return Turned::Nobody;
-        };
-        match self.step(level) {
-            Some(act) => Turned::Moved { level, act },
-            None => Turned::Nobody,
-        }
+        let level = level?;
+        let act = self.step(level)?;
+        Some(Moved { level, act })
     }
 }
