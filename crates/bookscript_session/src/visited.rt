@@ -3,7 +3,7 @@ use crate::hosted::refuse;
 use engine::visit::Visit;
 use host::calls::Host;
 use house::any_regime::AnyRegime;
-use meaning::answers::{Act, Turned};
+use meaning::answers::{Act, Moved};
 use refusal::Refusal;
 use std::{fmt, io};
 use text::number::capped_byte;
@@ -63,13 +63,13 @@ impl Tally {
         }
     }
 
-    fn add_answer(&mut self, answer: Result<Turned, Refusal>) {
+    fn add_answer(&mut self, answer: Result<Option<Moved>, Refusal>) {
         match answer {
-            Ok(Turned::Nobody) => {
+            Ok(None) => {
                 self.nobody = self.nobody.saturating_add(1);
                 self.add(0);
             }
-            Ok(Turned::Moved { level, act }) => {
+            Ok(Some(Moved { level, act })) => {
                 self.moved = self.moved.saturating_add(1);
                 self.add(1);
                 self.add(u32::from(level));
@@ -109,8 +109,8 @@ pub fn tell_collect<H: Host>(
 
 pub fn tell_turn<H: Host>(rt: &HostRuntime, visit: &mut Visit<AnyRegime, H>) -> io::Result<()> {
     match visit.turn() {
-        Ok(Turned::Nobody) => println!(rt; "nobody"),
-        Ok(Turned::Moved { level, act }) => println!(rt; "moved {level} {}", Acted(act)),
+        Ok(None) => println!(rt; "nobody"),
+        Ok(Some(Moved { level, act })) => println!(rt; "moved {level} {}", Acted(act)),
         Err(refusal) => refuse(rt, refusal),
     }
 }

@@ -1,9 +1,9 @@
 -- Answers in a row of feeds, turns and collects: if none is a refusal, the row tells what each call answered. Assumes
 -- nothing.
-use Rattle.std.proofs.Common.{◌≡◌, ℕ, List, [], ◌∷◌, ◌++◌, map, ℤ, pos, Ok, Err, Result, sym, refl, ap, ◌∙◌, ap₂, append-nil, arith}
+use Rattle.std.proofs.Common.{◌≡◌, ℕ, List, [], ◌∷◌, ◌++◌, map, ℤ, pos, Option, Ok, Err, Result, sym, refl, ap, ◌∙◌, ap₂, append-nil, arith}
 use Rattle.refusal.specs.declared.Refusal.{Refusal}
 use Rattle.meaning.specs.Answers.{Answer, refused, fed, collected, turned, told, answer_of, collected_by, turned_by}
-use Rattle.meaning.specs.declared.answers.Turned.{Turned}
+use Rattle.meaning.specs.declared.answers.Moved.{Moved}
 use Rattle.cases.specs.declared.lesson.Lesson.{Lesson}
 use Rattle.cases.specs.Lesson.{lesson_turns}
 use Rattle.cases.specs.Told.{answers_of, as_taught}
@@ -41,7 +41,7 @@ module _ {A : Type 0} (f : A → Answer) (k : ℕ) (kinds : (a : A) (ws : List A
       (ap₂ (λ (z : Result A Refusal) (zs : List (Result A Refusal)). z ∷ zs) (one x y here) more.0, more.1)
 
 -- after feeds come turns and collects, and after turns collects
-no_feed : (ts : List (Result Turned Refusal)) (cs : List (Result ℤ Refusal)) → kind (map turned_by ts ++ map collected_by cs) ≡ 1 → ⊥
+no_feed : (ts : List (Result (Option Moved) Refusal)) (cs : List (Result ℤ Refusal)) → kind (map turned_by ts ++ map collected_by cs) ≡ 1 → ⊥
 no_feed [] [] e = omega arith
 no_feed [] (Ok v ∷ cs) e = omega arith
 no_feed [] (Err r ∷ cs) e = omega arith

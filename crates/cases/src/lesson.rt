@@ -7,7 +7,7 @@ ghost use Rattle.cases.specs.Lesson.{file_f};
 ghost use Rattle.cases.specs.Told.{answers_of, as_taught, gone_through};
 
 use engine::visit::Visit;
-use meaning::answers::Turned;
+use meaning::answers::Moved;
 use page::ladder::Ladder;
 use page::slots::SlotHost;
 use reader::file::read_script;
@@ -17,7 +17,7 @@ use script::accepted::Script;
 // What the calls of the lesson answered, in their order.
 pub struct Lesson {
     pub fed: [Result<(), Refusal>; 2],
-    pub turns: [Result<Turned, Refusal>; 9],
+    pub turns: [Result<Option<Moved>, Refusal>; 9],
     pub collected: [Result<i32, Refusal>; 2],
 }
 

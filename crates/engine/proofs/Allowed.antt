@@ -1,18 +1,33 @@
--- A copy may do what its turn asks of it. Assumes nothing.
-use Rattle.std.proofs.Common.{◌≡◌, ℕ, ◌<◌, true}
-use Rattle.std.proofs.lemmas.Bool.{lt-ltb}
+-- What a copy may do, as the tables of a visit ask it, and that no copy then gets ahead of the turns. Assumes nothing.
+use Rattle.std.proofs.Common.{◌≡◌, ℕ, suc, ◌<◌, ◌≤◌, true, eqb, sym, subst, arith}
+use Rattle.std.proofs.lemmas.Bool.{cond_both, lt-ltb}
+use Rattle.meaning.specs.Copies.{with_at}
 use Rattle.copies.specs.Held.{copies_of, steps_of, may_step, may_assign, may_read}
 use Rattle.copies.specs.declared.table.Copies.{Copies}
+use Rattle.engine.specs.Courses.{MayStep, MayAssign, MayRead}
+use Rattle.engine.specs.declared.visit.Course.{Course}
 
-module _ (t : Copies) (l : ℕ) (inside : l < 16) (few : steps_of t l < 4294967295) where
+module _ (c : Course) (l : ℕ) where
   -- it may make a step
-  pub steps_on : may_step t l ≡ true
-  steps_on = rw (lt-ltb l 16 inside, lt-ltb (steps_of t l) 4294967295 few)
+  pub steps_on : MayStep c l → may_step c.copies l ≡ true
+  steps_on may =
+      let few : steps_of c.copies l < 4294967295 = omega (arith, may.counted, c.unspent) in
+      rw (lt-ltb l 16 may.inside, lt-ltb (steps_of c.copies l) 4294967295 few)
 
   -- and set a register
-  pub assigns : (i : ℕ) → i < 16 → (copies_of t l).next < 65535 → may_assign t l i ≡ true
-  assigns i register early = rw (steps_on, lt-ltb i 16 register, lt-ltb (copies_of t l).next 65535 early)
+  pub assigns : (t : ℕ) → MayAssign c l t → may_assign c.copies l t ≡ true
+  assigns t may =
+      let early : (copies_of c.copies l).next < 65535 = omega (arith, may.running) in
+      rw (steps_on may.step, lt-ltb t 16 may.register, lt-ltb (copies_of c.copies l).next 65535 early)
 
   -- and read on in a tape
-  pub reads : (i k : ℕ) → i < 16 → (copies_of t l).next < 65535 → k < 16 → (copies_of t l).positions k < 255 → may_read t l i k ≡ true
-  reads i k register early port before = rw (assigns i register early, lt-ltb k 16 port, lt-ltb ((copies_of t l).positions k) 255 before)
+  pub reads : (t k : ℕ) → MayRead c l t k → may_read c.copies l t k ≡ true
+  reads t k may =
+      let before : (copies_of c.copies l).positions k < 255 = omega (arith, may.early) in
+      rw (assigns t may.assign, lt-ltb k 16 may.port, lt-ltb ((copies_of c.copies l).positions k) 255 before)
+
+  -- after that step there are still as many turns as any copy made steps
+  pub paced : MayStep c l → (d : Copies) → steps_of d ≡ with_at (steps_of c.copies) l (suc (steps_of c.copies l)) → (j : ℕ) → steps_of d j ≤ c.turns
+  paced may d e j =
+      subst (λ (h : ℕ → ℕ). h j ≤ c.turns) (sym e)
+      (cond_both (eqb j l) (suc (steps_of c.copies l)) (steps_of c.copies j) (λ m. m ≤ c.turns) (λ _. may.counted) (λ _. c.paced j))

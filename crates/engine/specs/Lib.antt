@@ -1,2 +1,4 @@
+pub mod Courses
+pub mod Hosted
 pub mod Serves
 pub mod Views

@@ -1,13 +1,15 @@
 -- What a call of a visit answers and leaves. Assumes nothing.
-use Rattle.std.specs.Prelude.{◌≡◌, ℕ, cond, ℤ, Some, None, Ok, Err, Option, Result}
+use Rattle.std.specs.Prelude.{◌≡◌, ℕ, Bool, cond, not, ℤ, Some, None, Ok, Err, Option, Result}
 use Rattle.refusal.specs.declared.Refusal.{Refusal}
-use Rattle.refusal.specs.declared.Refusal.TheVariants.{Levels, Channels}
+use Rattle.refusal.specs.declared.Refusal.TheVariants.{Levels, Channels, Channel}
+use Rattle.refusal.specs.declared.Refusal.TheVariants as why
+use Rattle.script.specs.declared.parts.Direction.{Direction}
+use Rattle.script.specs.declared.parts.Direction.TheVariants.{In, Out}
 use Rattle.meaning.specs.Answers.{Call, Answer}
-use Rattle.meaning.specs.Visits.{Frame, State, respond, same_levels, enough_channels, Plan, go, lacks_value, lacks_space, ended, acted}
+use Rattle.meaning.specs.Visits.{Frame, State, respond, known, outward, same_levels, enough_channels, Plan, go, lacks_value, lacks_space, ended, acted}
 use Rattle.meaning.specs.declared.answers.Act.{Act}
 use Rattle.meaning.specs.declared.answers.Act.TheVariants.{Inner, Took, Reused, Defaulted, Wrote, Withheld}
-use Rattle.meaning.specs.declared.answers.Turned.{Turned}
-use Rattle.meaning.specs.declared.answers.Turned.TheVariants.{Nobody, Moved}
+use Rattle.meaning.specs.declared.answers.Moved.{Moved}
 
 -- the call x of a visit with frame f in state s leaves the frame g and the state t, and is answered by a: the frame stays,
 -- and state and answer are what the meaning gives
@@ -19,6 +21,14 @@ pub record Served (f : Frame) (s : State) (x : Call) (g : Frame) (t : State) (a 
 -- whether script, regime and host fit
 abbrev pub fitting : Frame → Result (Unit {0}) Refusal
 fitting f = cond (same_levels f) (cond (enough_channels f) (Ok tt) (Err Channels)) (Err Levels)
+
+-- whether channel k is one of the script's, and values go by it that way
+abbrev pub goes : Frame → ℕ → Direction → Bool
+goes f k In = not (outward f k)
+goes f k Out = outward f k
+
+abbrev pub judging : Frame → ℕ → Direction → Result (Unit {0}) Refusal
+judging f k d = cond (known f k) (cond (goes f k d) (Ok tt) (Err why.Direction)) (Err Channel)
 
 -- what a copy at level l does by its plan: the act, and the state that it leaves
 abbrev pub act_of : Plan → Option Act
@@ -55,7 +65,7 @@ StepMemory puts takes h None j = j ≡ h
 StepMemory puts takes h (Some act) j = Memory puts takes h act j
 
 -- and of a turn
-abbrev pub TurnMemory : {H : Type 0} → (H → ℕ → ℤ → H → Type 0) → (H → ℕ → H → Type 0) → H → Result Turned Refusal → H → Type 0
-TurnMemory puts takes h (Ok Nobody) j = j ≡ h
-TurnMemory puts takes h (Ok (Moved l act)) j = Memory puts takes h act j
+abbrev pub TurnMemory : {H : Type 0} → (H → ℕ → ℤ → H → Type 0) → (H → ℕ → H → Type 0) → H → Result (Option Moved) Refusal → H → Type 0
+TurnMemory puts takes h (Ok None) j = j ≡ h
+TurnMemory puts takes h (Ok (Some m)) j = Memory puts takes h m.act j
 TurnMemory puts takes h (Err e) j = j ≡ h

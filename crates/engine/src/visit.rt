@@ -11,6 +11,7 @@ use script::accepted::Script;
 pub mod calls;
 mod moves;
 mod standing;
+mod steps;
 mod world;
 
 #[derive(Drop)]
@@ -18,6 +19,12 @@ pub struct Visit<R: Regime, H: Host> {
     script: Script,
     regime: R,
     host: H,
+    course: Course,
+}
+
+// How far a visit has come. Turns change it in place; script, regime and host are no part of it.
+#[derive(Drop)]
+struct Course {
     // Accepted turns so far.
     turns: u32,
     copies: Copies,

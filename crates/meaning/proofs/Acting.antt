@@ -85,8 +85,8 @@ calls_at_end f sound (x ∷ xs) s at_end = calls_at_end f sound xs (respond f s 
 
 -- an opening has them there, so every act of its logs is rightful
 pub acts : (o : Opening) → Sound o.script → Limited o → Acts o
-acts o sound limited calls l act e =
+acts o sound limited calls m e =
     let f : Frame = framed o in
     let s : State = reached o calls in
-    let m = moving_of f s turn (respond f s turn) (outcome f s turn) l act e in
-    rightful f s (calls_at_end f sound calls (opened o) (λ k. refl)) l (limited calls) act m.copy (step_of f s l sound act m.copy m.planned).0
+    let here = moving_of f s turn (respond f s turn) (outcome f s turn) m e in
+    rightful f s (calls_at_end f sound calls (opened o) (λ k. refl)) m.level (limited calls) m.act here.copy (step_of f s m.level sound m.act here.copy here.planned).0

@@ -7,7 +7,7 @@ use Rattle.regime.specs.Order as regime
 use Rattle.regime.specs.Order.{Order, Lawful}
 use Rattle.script.specs.declared.parts.Instruction.{Instruction}
 use Rattle.script.specs.declared.parts.Instruction.TheVariants.{Skip, Set, Compute, Jump, Input, Output, Stop}
-use Rattle.meaning.specs.Answers.{Call, feed, collect, turn, ask, Answer, turned, told, in_numbers}
+use Rattle.meaning.specs.Answers.{Call, feed, collect, turn, ask, Answer, turned, told, moved_at, in_numbers}
 use Rattle.meaning.specs.Copies.{Copy, with_at, nth}
 use Rattle.meaning.specs.Logs.{log, logged, struck, kept, shown, seen}
 use Rattle.meaning.specs.Programs.{Program, Sound, level_at, instruction_at}
@@ -16,7 +16,6 @@ use Rattle.meaning.specs.Visits.{Opening, Frame, State, opened, Plan, go, lacks_
 use Rattle.meaning.specs.declared.answers.Act.{Act}
 use Rattle.meaning.specs.declared.answers.Act.TheVariants.{Inner, Took, Reused, Defaulted, Wrote, Withheld}
 use Rattle.meaning.specs.declared.answers.Status.{Status}
-use Rattle.meaning.specs.declared.answers.Turned.TheVariants.{Nobody, Moved}
 use Rattle.meaning.proofs.Fitting.{Fits, fits_at}
 use Rattle.meaning.proofs.Outcomes.{Outcome, refuses, feeds, collects, idles, goes_on, tells, outcome}
 use Rattle.meaning.proofs.Stepping.{Step, computes, defaults, reuses, takes_one, writes, withholds, Stepping, plan_stepping}
@@ -167,11 +166,11 @@ module _ (sc : Program) (r : Order) (l n : ℕ) where
 
     -- a turn is hidden from l: it shows nobody, and leaves what an idle turn leaves
     abbrev Hidden : State → Reply → Type 0
-    Hidden s q = (shown r l q.1 ≡ turned Nobody) × Alike q.0 (counted s)
+    Hidden s q = (shown r l q.1 ≡ turned None) × Alike q.0 (counted s)
 
     -- whatever such a level plans, its turn is hidden
     moving_hidden : (s : State) (a : ℕ) (p : Plan) → Stepping visit s a (s.copy a) p → r.flows a l ≡ false → Hidden s (moving s a p)
-    moving_hidden s a (go act c) step nay = (ap (λ b. cond b (turned (Moved a act)) (turned Nobody)) nay, acted_apart s a act c step.0 nay)
+    moving_hidden s a (go act c) step nay = (ap (λ b. cond b (turned (moved_at a act)) (turned None)) nay, acted_apart s a act c step.0 nay)
     moving_hidden s a (lacks_value k) step nay = (refl, alike_refl (counted s))
     moving_hidden s a (lacks_space k) step nay = (refl, alike_refl (counted s))
     moving_hidden s a ended step nay = (refl, alike_refl (counted s))

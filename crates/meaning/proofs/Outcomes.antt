@@ -1,14 +1,13 @@
 -- What a call can come to, as a relation, so that each theorem goes through the cases once. Assumes nothing.
-use Rattle.std.proofs.Common.{◌≡◌, ℕ, ◌<◌, ◌≤◌, Bool, true, false, ltb, ℤ, Some, None, Option, sym, refl, ap, ◌∙◌}
+use Rattle.std.proofs.Common.{◌≡◌, ℕ, ◌<◌, ◌≤◌, Bool, true, false, ltb, ℤ, Some, None, Option, refl, ap, subst}
 use Rattle.std.proofs.lemmas.Bool.{ltb-true, ltb-false}
 use Rattle.refusal.specs.declared.Refusal.{Refusal}
 use Rattle.refusal.specs.declared.Refusal.TheVariants.{Levels, Channels, Channel, Direction, Level, Full, Empty, Spent}
-use Rattle.meaning.specs.Answers.{Call, feed, collect, turn, ask, refused, fed, collected, turned, told}
+use Rattle.meaning.specs.Answers.{Call, feed, collect, turn, ask, refused, fed, collected, turned, told, moved_at}
 use Rattle.meaning.specs.Copies.{Copy, nth}
 use Rattle.meaning.specs.Visits.{Frame, State, Plan, go, lacks_value, lacks_space, ended, plan, choice, status, is_ready, Reply, put_on, take_off, with_lists, counted, acted, known, outward, has_space, same_levels, enough_channels, feeding, collecting, moving, picked, turning, asking, serve, admit, respond}
 use Rattle.meaning.specs.declared.answers.Act.{Act}
-use Rattle.meaning.specs.declared.answers.Turned.{Turned}
-use Rattle.meaning.specs.declared.answers.Turned.TheVariants.{Nobody, Moved}
+use Rattle.meaning.specs.declared.answers.Moved.{Moved}
 use Rattle.meaning.proofs.Lists.{clash}
 
 module _ (f : Frame) (s : State) where
@@ -27,9 +26,9 @@ module _ (f : Frame) (s : State) where
     feeds : (k : ℕ) (v : ℤ) → known f k ≡ true → outward f k ≡ false → Outcome (feed k v) (with_lists s (put_on k v s.lists), fed)
     collects : (k : ℕ) (v : ℤ) → known f k ≡ true → outward f k ≡ true → nth (s.lists k) 0 ≡ Some v →
         Outcome (collect k) (with_lists s (take_off k s.lists), collected v)
-    idles : ((b : ℕ) → choice f s ≡ Some b → goes b ≡ false) → s.turns < 1000000 → Outcome turn (counted s, turned Nobody)
+    idles : ((b : ℕ) → choice f s ≡ Some b → goes b ≡ false) → s.turns < 1000000 → Outcome turn (counted s, turned None)
     goes_on : (a : ℕ) (act : Act) (c : Copy) → choice f s ≡ Some a → plan f s a ≡ go act c → s.turns < 1000000 →
-        Outcome turn (counted (acted s a act c), turned (Moved a act))
+        Outcome turn (counted (acted s a act c), turned (moved_at a act))
     tells : (a : ℕ) → ltb a f.script.levels ≡ true → Outcome (ask a) (s, told (record { status = status (plan f s a); steps = s.steps a }))
 
   -- what a feed comes to
@@ -90,37 +89,30 @@ module _ (f : Frame) (s : State) where
   outcome x = admit_outcome x (same_levels f) (enough_channels f)
 
   -- script, regime and host fit where a call is answered as a turn
-  admits : (x : Call) (t : Turned) (a b : Bool) → (admit f s x a b).1 ≡ turned t → (a ≡ true) × (b ≡ true)
+  admits : (x : Call) (t : Option Moved) (a b : Bool) → (admit f s x a b).1 ≡ turned t → (a ≡ true) × (b ≡ true)
   admits x t false b e = clash cc
   admits x t true false e = clash cc
   admits x t true true e = (refl, refl)
 
   -- the same of the whole answer
-  pub turn_admits : (x : Call) (t : Turned) → (respond f s x).1 ≡ turned t → (same_levels f ≡ true) × (enough_channels f ≡ true)
+  pub turn_admits : (x : Call) (t : Option Moved) → (respond f s x).1 ≡ turned t → (same_levels f ≡ true) × (enough_channels f ≡ true)
   turn_admits x t e = admits x t (same_levels f) (enough_channels f) e
 
-  -- what is known where the copy at level l moves
-  pub record Moving (l : ℕ) (act : Act) (r : Reply) : Type 0 where
+  -- what is known where a copy moves
+  pub record Moving (m : Moved) (r : Reply) : Type 0 where
     pub copy : Copy
-    pub chosen : choice f s ≡ Some l
-    pub planned : plan f s l ≡ go act copy
+    pub chosen : choice f s ≡ Some m.level
+    pub planned : plan f s m.level ≡ go m.act copy
     pub left : s.turns < 1000000
-    pub leaves : r.0 ≡ counted (acted s l act copy)
+    pub leaves : r.0 ≡ counted (acted s m.level m.act copy)
 
   -- where a call is answered with a move it is that outcome
-  pub moving_of : (x : Call) (r : Reply) → Outcome x r → (l : ℕ) (act : Act) → r.1 ≡ turned (Moved l act) → Moving l act r
-  moving_of x r (refuses y u h) l act e = clash cc
-  moving_of x r (feeds k v p q) l act e = clash cc
-  moving_of x r (collects k v p q h) l act e = clash cc
-  moving_of x r (idles none left) l act e = clash cc
-  moving_of x r (goes_on a did c q p left) l act e =
-      let here : a ≡ l = cc in
-      let same : did ≡ act = cc in
-      record {
-        copy = c;
-        chosen = q ∙ ap (λ b. Some b) here;
-        planned = ap (plan f s) (sym here) ∙ p ∙ ap (λ d. go d c) same;
-        left = left;
-        leaves = λ i. counted (acted s (here i) (same i) c);
-      }
-  moving_of x r (tells a h) l act e = clash cc
+  pub moving_of : (x : Call) (r : Reply) → Outcome x r → (m : Moved) → r.1 ≡ turned (Some m) → Moving m r
+  moving_of x r (refuses y u h) m e = clash cc
+  moving_of x r (feeds k v p q) m e = clash cc
+  moving_of x r (collects k v p q h) m e = clash cc
+  moving_of x r (idles none left) m e = clash cc
+  moving_of x r (goes_on a act c q p left) m e =
+      let here : ◌≡◌ {A = Moved} (record { level = a; act = act }) m = cc in
+      subst (λ (n : Moved). Moving n r) here (record { copy = c; chosen = q; planned = p; left = left; leaves = refl })
+  moving_of x r (tells a h) m e = clash cc

@@ -7,8 +7,7 @@ use Rattle.meaning.specs.Answers.{Call, turn, ask, refused, turned, told}
 use Rattle.meaning.specs.Logs.{reached, logged, moves_of}
 use Rattle.meaning.specs.Promises.{Moves, Refusals}
 use Rattle.meaning.specs.Visits.{Opening, Frame, framed, State, Plan, Reply, status, ready, choice, enough_channels, asking, admit, respond}
-use Rattle.meaning.specs.declared.answers.Act.{Act}
-use Rattle.meaning.specs.declared.answers.Turned.TheVariants.{Nobody, Moved}
+use Rattle.meaning.specs.declared.answers.Moved.{Moved}
 use Rattle.meaning.specs.declared.answers.Status.TheVariants.{Ready}
 use Rattle.meaning.proofs.Counting.{steps_are_moves}
 use Rattle.meaning.proofs.Lists.{clash, with_at_other}
@@ -20,7 +19,7 @@ chosen_ready f lawful s a e =
     and_parts (ltb a f.script.levels) (goes f s a) (lawful.ready_only (s.turns % f.order.size) (ready f s) a e).1
 
 -- where a turn answers nobody, nobody is chosen
-nobody_chosen : (f : Frame) → Lawful f.order → (s : State) (x : Call) (r : Reply) → Outcome f s x r → r.1 ≡ turned Nobody → choice f s ≡ None
+nobody_chosen : (f : Frame) → Lawful f.order → (s : State) (x : Call) (r : Reply) → Outcome f s x r → r.1 ≡ turned None → choice f s ≡ None
 nobody_chosen f lawful s x r (refuses y u h) e = clash cc
 nobody_chosen f lawful s x r (feeds k v p q) e = clash cc
 nobody_chosen f lawful s x r (collects k v p q first) e = clash cc
@@ -42,22 +41,23 @@ moves o lawful calls = record { moved = moved; others = others; nobody = nobody_
     s : State
     s = reached o calls
 
-    moving : (l : ℕ) (act : Act) → (respond f s turn).1 ≡ turned (Moved l act) → Moving f s l act (respond f s turn)
+    moving : (m : Moved) → (respond f s turn).1 ≡ turned (Some m) → Moving f s m (respond f s turn)
     moving = moving_of f s turn (respond f s turn) (outcome f s turn)
 
-    moved : (l : ℕ) (act : Act) → (respond f s turn).1 ≡ turned (Moved l act) → (respond f s (ask l)).1 ≡ told (record { status = Ready; steps = moves_of l (logged o calls) })
-    moved l act e =
-        let admitted = turn_admits f s turn (Moved l act) e in
+    moved : (m : Moved) → (respond f s turn).1 ≡ turned (Some m) → (respond f s (ask m.level)).1 ≡ told (record { status = Ready; steps = moves_of m.level (logged o calls) })
+    moved m e =
+        let admitted = turn_admits f s turn (Some m) e in
+        let l = m.level in
         ap (λ b. (admit f s (ask l) b (enough_channels f)).1) admitted.0
         ∙ ap (λ b. (admit f s (ask l) true b).1) admitted.1
-        ∙ ap (λ b. (asking f s l b).1) (chosen_ready f lawful s l (moving l act e).chosen).0
-        ∙ ap (λ (p : Plan). told (record { status = status p; steps = s.steps l })) (moving l act e).planned
+        ∙ ap (λ b. (asking f s l b).1) (chosen_ready f lawful s l (moving m e).chosen).0
+        ∙ ap (λ (p : Plan). told (record { status = status p; steps = s.steps l })) (moving m e).planned
         ∙ ap (λ n. told (record { status = Ready; steps = n })) (steps_are_moves o calls l)
 
-    others : (l : ℕ) (act : Act) → (respond f s turn).1 ≡ turned (Moved l act) → (j : ℕ) → (j ≡ l → ⊥) → (respond f s turn).0.copy j ≡ s.copy j
-    others l act e j nay =
-        let m = moving l act e in
-        ap (λ (t : State). t.copy j) m.leaves ∙ with_at_other s.copy l m.copy j nay
+    others : (m : Moved) → (respond f s turn).1 ≡ turned (Some m) → (j : ℕ) → (j ≡ m.level → ⊥) → (respond f s turn).0.copy j ≡ s.copy j
+    others m e j nay =
+        let here = moving m e in
+        ap (λ (t : State). t.copy j) here.leaves ∙ with_at_other s.copy m.level here.copy j nay
 
 -- a refused call leaves all as it was
 refused_unchanged : (f : Frame) (s : State) (x : Call) (r : Reply) → Outcome f s x r → (e : Refusal) → r.1 ≡ refused e → r.0 ≡ s

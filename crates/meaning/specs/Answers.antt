@@ -1,10 +1,10 @@
 -- The calls of a visit and their answers, as a log holds them. Assumes nothing.
-use Rattle.std.specs.Prelude.{ℕ, List, [], ◌∷◌, ℤ, pos, Ok, Err, Result}
+use Rattle.std.specs.Prelude.{ℕ, List, [], ◌∷◌, ℤ, pos, Some, None, Option, Ok, Err, Result}
 use Rattle.refusal.specs.declared.Refusal.{Refusal}
 use Rattle.refusal.specs.Numbers.{number_of}
 use Rattle.meaning.specs.Numbers.{act_number, act_values, status_number, channel_lacked}
-use Rattle.meaning.specs.declared.answers.Turned.{Turned}
-use Rattle.meaning.specs.declared.answers.Turned.TheVariants.{Nobody, Moved}
+use Rattle.meaning.specs.declared.answers.Act.{Act}
+use Rattle.meaning.specs.declared.answers.Moved.{Moved}
 use Rattle.meaning.specs.declared.answers.Standing.{Standing}
 
 -- a value fed to a channel, a value collected from one, a turn, a question about a level
@@ -18,13 +18,17 @@ pub data Answer : Type 0 where
   refused : Refusal → Answer
   fed : Answer
   collected : ℤ → Answer
-  turned : Turned → Answer
+  turned : Option Moved → Answer
   told : Standing → Answer
+
+-- what a turn answers that moved the copy at a level, by an act
+abbrev pub moved_at : ℕ → Act → Option Moved
+moved_at l act = Some (record { level = l; act = act })
 
 -- an answer in numbers: what kind of answer it is, and then its values
 abbrev pub in_numbers : Answer → List ℤ
-in_numbers (turned Nobody) = pos 0 ∷ []
-in_numbers (turned (Moved l act)) = pos 1 ∷ pos l ∷ pos (act_number act) ∷ act_values act
+in_numbers (turned None) = pos 0 ∷ []
+in_numbers (turned (Some m)) = pos 1 ∷ pos m.level ∷ pos (act_number m.act) ∷ act_values m.act
 in_numbers (refused e) = pos 2 ∷ pos (number_of e) ∷ []
 in_numbers fed = pos 3 ∷ []
 in_numbers (collected v) = pos 4 ∷ v ∷ []
@@ -41,7 +45,7 @@ fed_by = answer_of (λ _. fed)
 abbrev pub collected_by : Result ℤ Refusal → Answer
 collected_by = answer_of collected
 
-abbrev pub turned_by : Result Turned Refusal → Answer
+abbrev pub turned_by : Result (Option Moved) Refusal → Answer
 turned_by = answer_of turned
 
 abbrev pub told_by : Result Standing Refusal → Answer

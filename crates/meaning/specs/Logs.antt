@@ -1,12 +1,11 @@
 -- Logs: calls with their answers, and what is read off them. Assumes nothing.
-use Rattle.std.specs.Prelude.{ℕ, suc, Bool, true, false, cond, not, ◌&&◌, ◌||◌, List, [], ◌∷◌, ◌++◌, ℤ, ◌==◌, nat_eq, nat_lt}
+use Rattle.std.specs.Prelude.{ℕ, suc, Bool, true, false, cond, not, ◌&&◌, ◌||◌, List, [], ◌∷◌, ◌++◌, ℤ, Some, None, ◌==◌, nat_eq, nat_lt}
 use Rattle.regime.specs.Order.{Order}
 use Rattle.meaning.specs.Answers.{Call, feed, collect, turn, ask, Answer, refused, fed, collected, turned, told}
 use Rattle.meaning.specs.Programs.{Program, level_at}
 use Rattle.meaning.specs.Visits.{Frame, State, Opening, framed, opened, respond}
 use Rattle.meaning.specs.declared.answers.Act.{Act}
 use Rattle.meaning.specs.declared.answers.Act.TheVariants.{Inner, Took, Reused, Defaulted, Wrote, Withheld}
-use Rattle.meaning.specs.declared.answers.Turned.TheVariants.{Nobody, Moved}
 
 -- all calls in order, refused ones too, each with its answer
 abbrev pub Log : Type 0
@@ -38,8 +37,8 @@ is_accepted (told a) = true
 
 -- what is read off an answer that the copy at a level moved, by an act; and off any other answer
 abbrev pub by_move : {A : Type 0} → (ℕ → Act → A) → A → Answer → A
-by_move g d (turned (Moved l act)) = g l act
-by_move g d (turned Nobody) = d
+by_move g d (turned (Some m)) = g m.level m.act
+by_move g d (turned None) = d
 by_move g d (refused e) = d
 by_move g d fed = d
 by_move g d (collected v) = d
@@ -153,8 +152,8 @@ kept sc r l (x ∷ xs) = cond (struck sc r l x) (kept sc r l xs) (x ∷ kept sc 
 
 -- an answer as level l sees it: that a level which does not flow to l moved counts as nobody
 abbrev pub shown : Order → ℕ → Answer → Answer
-shown r l (turned (Moved a act)) = cond (r.flows a l) (turned (Moved a act)) (turned Nobody)
-shown r l (turned Nobody) = turned Nobody
+shown r l (turned (Some m)) = cond (r.flows m.level l) (turned (Some m)) (turned None)
+shown r l (turned None) = turned None
 shown r l (refused e) = refused e
 shown r l fed = fed
 shown r l (collected v) = collected v

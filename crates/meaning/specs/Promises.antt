@@ -1,6 +1,6 @@
 -- What is promised of every visit: of every script, every regime that keeps the laws, every host, and every log of
 -- calls. Assumes nothing.
-use Rattle.std.specs.Prelude.{◌≡◌, ℕ, ◌<◌, ◌≤◌, true, false, ◌⊎◌, List, [], ◌∷◌, ◌++◌, map, length, pos, None, ◌≢◌}
+use Rattle.std.specs.Prelude.{◌≡◌, ℕ, ◌<◌, ◌≤◌, true, false, ◌⊎◌, List, [], ◌∷◌, ◌++◌, map, length, pos, Some, None, ◌≢◌}
 use Rattle.refusal.specs.declared.Refusal.{Refusal}
 use Rattle.refusal.specs.declared.Refusal.TheVariants.{Levels, Channels, Spent}
 use Rattle.regime.specs.Order as regime
@@ -13,7 +13,7 @@ use Rattle.meaning.specs.Programs.{Sound, level_at}
 use Rattle.meaning.specs.Visits.{Opening, Frame, framed, State, ready, choice, level_of, same_levels, enough_channels, respond}
 use Rattle.meaning.specs.declared.answers.Act.{Act}
 use Rattle.meaning.specs.declared.answers.Act.TheVariants.{Inner, Took, Reused, Defaulted, Wrote, Withheld}
-use Rattle.meaning.specs.declared.answers.Turned.TheVariants.{Nobody, Moved}
+use Rattle.meaning.specs.declared.answers.Moved.{Moved}
 use Rattle.meaning.specs.declared.answers.Status.TheVariants.{Ready}
 use Rattle.meaning.specs.declared.answers.Standing.{Standing}
 
@@ -106,11 +106,11 @@ pub record Turns (o : Opening) : Type 0 where
 -- MOVES. A turn moves a level only where the question about it, asked right before, would answer ready, and leaves all
 -- other copies as they are; it answers nobody only where the regime picks nobody of the ready levels.
 pub record Moves (o : Opening) (calls : List Call) : Type 0 where
-  pub moved : (l : ℕ) (act : Act) → (respond (framed o) (reached o calls) turn).1 ≡ turned (Moved l act) →
-      (respond (framed o) (reached o calls) (ask l)).1 ≡ told (record { status = Ready; steps = moves_of l (logged o calls) })
-  pub others : (l : ℕ) (act : Act) → (respond (framed o) (reached o calls) turn).1 ≡ turned (Moved l act) → (j : ℕ) → (j ≢ l) →
+  pub moved : (m : Moved) → (respond (framed o) (reached o calls) turn).1 ≡ turned (Some m) →
+      (respond (framed o) (reached o calls) (ask m.level)).1 ≡ told (record { status = Ready; steps = moves_of m.level (logged o calls) })
+  pub others : (m : Moved) → (respond (framed o) (reached o calls) turn).1 ≡ turned (Some m) → (j : ℕ) → (j ≢ m.level) →
       (respond (framed o) (reached o calls) turn).0.copy j ≡ (reached o calls).copy j
-  pub nobody : (respond (framed o) (reached o calls) turn).1 ≡ turned Nobody → choice (framed o) (reached o calls) ≡ None
+  pub nobody : (respond (framed o) (reached o calls) turn).1 ≡ turned None → choice (framed o) (reached o calls) ≡ None
 
 -- what holds of an act of the copy at level l
 abbrev pub Rightful : Frame → State → ℕ → Act → Type 0
@@ -128,8 +128,8 @@ Rightful f s l (Withheld k v) = level_of f k ≡ l → ⊥
 -- ACTS. Every act of a log is rightful.
 abbrev pub Acts : Opening → Type 0
 Acts o =
-    (calls : List Call) (l : ℕ) (act : Act) → (respond (framed o) (reached o calls) turn).1 ≡ turned (Moved l act) →
-    Rightful (framed o) (reached o calls) l act
+    (calls : List Call) (m : Moved) → (respond (framed o) (reached o calls) turn).1 ≡ turned (Some m) →
+    Rightful (framed o) (reached o calls) m.level m.act
 
 -- REFUSALS. A refused call changes nothing; where script and regime differ in the number of levels every call is refused
 -- for that, and else, where the host has too few channels, for this.

@@ -7,13 +7,12 @@ use Rattle.regime.specs.Order as regime
 use Rattle.regime.specs.Order.{Order}
 use Rattle.script.specs.declared.parts.Instruction.{Instruction}
 use Rattle.script.specs.declared.parts.Instruction.TheVariants.{Skip, Set, Compute, Jump, Input, Output, Stop}
-use Rattle.meaning.specs.Answers.{Call, feed, collect, turn, ask, Answer, refused, fed, collected, turned, told}
+use Rattle.meaning.specs.Answers.{Call, feed, collect, turn, ask, Answer, refused, fed, collected, turned, told, moved_at}
 use Rattle.meaning.specs.Arithmetic.{is_zero, result_of}
 use Rattle.meaning.specs.Copies.{Copy, first, go_to, go_on, assign, further, with_at, nth}
 use Rattle.meaning.specs.Programs.{Program, level_at, outward_at, instruction_at}
 use Rattle.meaning.specs.declared.answers.Act.{Act}
 use Rattle.meaning.specs.declared.answers.Act.TheVariants.{Inner, Took, Reused, Defaulted, Wrote, Withheld}
-use Rattle.meaning.specs.declared.answers.Turned.TheVariants.{Nobody, Moved}
 use Rattle.meaning.specs.declared.answers.Status.{Status}
 use Rattle.meaning.specs.declared.answers.Status.TheVariants.{Ready, LacksValue, LacksSpace, Ended}
 
@@ -194,13 +193,13 @@ collecting s k true true (Some v) = (with_lists s (take_off k s.lists), collecte
 
 -- the copy at level a, which was picked, does as it plans (under a lawful regime it always goes on)
 abbrev pub moving : State → ℕ → Plan → Reply
-moving s a (go act c) = (counted (acted s a act c), turned (Moved a act))
-moving s a (lacks_value k) = (counted s, turned Nobody)
-moving s a (lacks_space k) = (counted s, turned Nobody)
-moving s a ended = (counted s, turned Nobody)
+moving s a (go act c) = (counted (acted s a act c), turned (moved_at a act))
+moving s a (lacks_value k) = (counted s, turned None)
+moving s a (lacks_space k) = (counted s, turned None)
+moving s a ended = (counted s, turned None)
 
 abbrev pub picked : Frame → State → Option ℕ → Reply
-picked f s None = (counted s, turned Nobody)
+picked f s None = (counted s, turned None)
 picked f s (Some a) = moving s a (plan f s a)
 
 -- who is picked: the place is the accepted turns so far modulo the number of levels

@@ -26,35 +26,20 @@ impl Act {
     {
         match self {
             Act::Inner => 0,
-            Act::Took {
-                channel: _,
-                value: _,
-            } => 1,
-            Act::Reused {
-                channel: _,
-                value: _,
-            } => 2,
-            Act::Defaulted {
-                channel: _,
-                value: _,
-            } => 3,
-            Act::Wrote {
-                channel: _,
-                value: _,
-            } => 4,
-            Act::Withheld {
-                channel: _,
-                value: _,
-            } => 5,
+            Act::Took { .. } => 1,
+            Act::Reused { .. } => 2,
+            Act::Defaulted { .. } => 3,
+            Act::Wrote { .. } => 4,
+            Act::Withheld { .. } => 5,
         }
     }
 }
 
-// Whom a turn moved.
+// Whom a turn moved, and what that copy did. A turn that moves nobody has none.
 #[derive(Clone, Copy, PartialEq, Eq, Debug)]
-pub enum Turned {
-    Nobody,
-    Moved { level: u8, act: Act },
+pub struct Moved {
+    pub level: u8,
+    pub act: Act,
 }
 
 // Whether a copy can go on, and what it lacks.
@@ -73,8 +58,8 @@ impl Status {
     {
         match self {
             Status::Ready => 0,
-            Status::LacksValue { channel: _ } => 1,
-            Status::LacksSpace { channel: _ } => 2,
+            Status::LacksValue { .. } => 1,
+            Status::LacksSpace { .. } => 2,
             Status::Ended => 3,
         }
     }

@@ -6,7 +6,7 @@ pub mod slots;
 
 pub use engine::visit::Visit;
 pub use host::calls::Host;
-pub use meaning::answers::{Act, Standing, Status, Turned};
+pub use meaning::answers::{Act, Moved, Standing, Status};
 pub use preview::acts::Did;
 pub use preview::plain_run::PlainRun;
 pub use reader::file::read_script;

@@ -3,7 +3,7 @@
 
 use page::ladder::Ladder;
 use page::slots::SlotHost;
-use page::{Refusal, Script, Turned, Visit, read_script};
+use page::{Moved, Refusal, Script, Visit, read_script};
 use std::io;
 
 // A lesson. Level 0 is the publisher's, level 1 the reader's own. Channel 0 hears page turns, 1 answers, 2 margin notes;
@@ -19,10 +19,10 @@ const TURNS: u32 = 10;
 
 type Lesson = Visit<Ladder, SlotHost>;
 
-fn tell_move(rt: &HostRuntime, turned: Result<Turned, Refusal>) -> io::Result<()> {
+fn tell_move(rt: &HostRuntime, turned: Result<Option<Moved>, Refusal>) -> io::Result<()> {
     match turned {
-        Ok(Turned::Moved { level, act }) => println!(rt; "level {level}: act {}", act.number()),
-        Ok(Turned::Nobody) => Ok(()),
+        Ok(Some(Moved { level, act })) => println!(rt; "level {level}: act {}", act.number()),
+        Ok(None) => Ok(()),
         Err(refusal) => println!(rt; "refused {}", refusal.number()),
     }
 }

@@ -1,5 +1,5 @@
 // What calls answered: counts, and a sum that tells runs apart.
-use meaning::answers::{Act, Turned};
+use meaning::answers::{Act, Moved};
 use refusal::Refusal;
 use std::fmt;
 
@@ -41,14 +41,14 @@ impl Tally {
         self.sum = self.sum.wrapping_mul(31).wrapping_add(value);
     }
 
-    pub fn turn(&mut self, answer: Result<Turned, Refusal>) {
+    pub fn turn(&mut self, answer: Result<Option<Moved>, Refusal>) {
         match answer {
-            Ok(Turned::Moved { level, act }) => {
+            Ok(Some(Moved { level, act })) => {
                 self.moved = self.moved.wrapping_add(1);
                 self.mix(i32::from(level) * 8 + i32::from(act.number()));
                 self.mix(value_of(act));
             }
-            Ok(Turned::Nobody) => self.nobody = self.nobody.wrapping_add(1),
+            Ok(None) => self.nobody = self.nobody.wrapping_add(1),
             Err(_) => self.refused = self.refused.wrapping_add(1),
         }
     }

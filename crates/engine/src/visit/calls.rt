@@ -1,19 +1,16 @@
 // The calls of a visit.
-ghost use Rattle.std.specs.Prelude.{◌≡◌, ℕ, []};
-ghost use Rattle.copies.specs.Held.{copies_of, steps_of, tapes_of};
-ghost use Rattle.meaning.specs.Copies.{first};
+ghost use Rattle.std.specs.Prelude.{◌≡◌};
 ghost use Rattle.host.specs.Channels.{IfAccepted, IfRefused};
 ghost use Rattle.meaning.specs.Answers.{ask as asks, collect as collects, collected_by, fed_by, feed as feeds, told_by, turn as turns, turned_by};
 ghost use Rattle.meaning.specs.Promises.{Promises};
 ghost use Rattle.meaning.specs.Visits.{framed, opened};
-ghost use Rattle.engine.specs.Serves.{TurnMemory, fitting};
+ghost use Rattle.engine.specs.Serves.{TurnMemory, fitting, judging};
 ghost use Rattle.engine.specs.Views.{Serves, frame_of, opening, state_of};
 
-use crate::visit::Visit;
-use copies::table::Copies;
-use copies::tapes::Tapes;
+use crate::visit::world::{put, take};
+use crate::visit::{Course, Visit};
 use host::calls::Host;
-use meaning::answers::{Standing, Turned};
+use meaning::answers::{Moved, Standing};
 use refusal::Refusal;
 use regime::rules::Regime;
 use script::accepted::Script;
@@ -33,26 +30,11 @@ impl<R: Regime, H: Host> Visit<R, H> {
         ensures state { state_of H.Host.channels result ≡ opened (opening script (R.Regime.order regime) (H.Host.channels host)) }
         ensures promises { Promises (opening script (R.Regime.order regime) (H.Host.channels host)) }
     {
-        Visit::begin(script, regime, host)
-    }
-
-    // Every copy and every tape as it begins.
-    fn begin(script: Script, regime: R, host: H) -> Visit<R, H>
-        ensures script { result.script ≡ script }
-        ensures regime { result.regime ≡ regime }
-        ensures host { result.host ≡ host }
-        ensures turns { result.turns ≡ 0 }
-        ensures copies { (l : ℕ) → copies_of result.copies l ≡ first }
-        ensures steps { (l : ℕ) → steps_of result.copies l ≡ 0 }
-        ensures tapes { (k : ℕ) → tapes_of result.tapes k ≡ [] }
-    {
         Visit {
             script,
             regime,
             host,
-            turns: 0,
-            copies: Copies::new(),
-            tapes: Tapes::new(),
+            course: Course::begin(),
         }
     }
 
@@ -69,6 +51,19 @@ impl<R: Regime, H: Host> Visit<R, H> {
         Ok(())
     }
 
+    // Whether it is a channel of the script, by which values go that way.
+    fn judge(&self, channel: u8, direction: Direction) -> Result<(), Refusal>
+        ensures { result ≡ judging (frame_of R.Regime.order H.Host.channels self.now) channel direction }
+    {
+        if channel as usize >= self.script.channel_count {
+            return Err(Refusal::Channel);
+        }
+        if self.script.channels[channel as usize].direction != direction {
+            return Err(Refusal::Direction);
+        }
+        Ok(())
+    }
+
     // The world puts a value to an in channel.
     pub fn feed(&mut self, channel: u8, value: i32) -> Result<(), Refusal>
         ensures served { Serves R.Regime.order H.Host.channels self.old (feeds channel value) self.new (fed_by result) }
@@ -76,16 +71,8 @@ impl<R: Regime, H: Host> Visit<R, H> {
         ensures memory { IfAccepted result (H.Host.puts self.old.host channel value self.new.host) }
     {
         self.fit()?;
-        if channel as usize >= self.script.channel_count {
-            return Err(Refusal::Channel);
-        }
-        match self.script.channels[channel as usize].direction {
-            Direction::Out => Err(Refusal::Direction),
-            Direction::In => {
-                self.put(channel, value)?;
-                Ok(())
-            }
-        }
+        self.judge(channel, Direction::In)?;
+        put(&mut self.host, channel, value)
     }
 
     // The world takes a value from an out channel.
@@ -95,26 +82,18 @@ impl<R: Regime, H: Host> Visit<R, H> {
         ensures memory { IfAccepted result (H.Host.takes self.old.host channel self.new.host) }
     {
         self.fit()?;
-        if channel as usize >= self.script.channel_count {
-            return Err(Refusal::Channel);
-        }
-        match self.script.channels[channel as usize].direction {
-            Direction::In => Err(Refusal::Direction),
-            Direction::Out => {
-                let value = self.take(channel)?;
-                Ok(value)
-            }
-        }
+        self.judge(channel, Direction::Out)?;
+        take(&mut self.host, channel)
     }
 
     // One turn: the copy that is picked does one instruction, or nobody moves.
-    pub fn turn(&mut self) -> Result<Turned, Refusal>
+    pub fn turn(&mut self) -> Result<Option<Moved>, Refusal>
         ensures served { Serves R.Regime.order H.Host.channels self.old turns self.new (turned_by result) }
         ensures refused { IfRefused result (self.new ≡ self.old) }
         ensures memory { TurnMemory H.Host.puts H.Host.takes self.old.host result self.new.host }
     {
         self.fit()?;
-        if self.turns >= TURNS {
+        if self.course.turns >= TURNS {
             return Err(Refusal::Spent);
         }
         let picked = self.choose();
@@ -131,7 +110,7 @@ impl<R: Regime, H: Host> Visit<R, H> {
         }
         Ok(Standing {
             status: self.status(level),
-            steps: self.copies.steps(level),
+            steps: self.course.copies.steps(level),
         })
     }
 
@@ -166,9 +145,7 @@ impl<R: Regime, H: Host> Visit<R, H> {
             script,
             regime,
             host,
-            turns: _,
-            copies: _,
-            tapes: _,
+            ..
         } = self;
         (script, regime, host)
     }

@@ -1,11 +1,12 @@
 // How a copy stands, and who moves next.
-ghost use Rattle.std.specs.Prelude.{◌≡◌, ℕ, ◌%◌, ◌<◌, ◌≤◌, ℤ, IfSome, ◌==◌};
+ghost use Rattle.std.specs.Prelude.{◌≡◌, ℕ, ◌%◌, ◌<◌, ℤ, IfSome, ◌==◌};
 ghost use Rattle.copies.specs.Held.{copies_of};
 ghost use Rattle.meaning.specs.Visits.{choice, gets, has_space, is_ready, level_of, plan, read_plan, ready as ready_levels, status as status_of, write_plan};
 ghost use Rattle.regime.specs.Members.{members};
-ghost use Rattle.engine.specs.Views.{frame_of, state_of};
+ghost use Rattle.engine.specs.Views.{Fits, Port, frame_of, state_of};
 
 use crate::visit::Visit;
+use crate::visit::world::{has_space, holds};
 use copies::rules::Source;
 use host::calls::Host;
 use meaning::answers::Status;
@@ -14,35 +15,32 @@ use regime::rules::Regime;
 use script::parts::Instruction;
 
 impl<R: Regime, H: Host> Visit<R, H> {
+    // The level of a channel of the script.
+    pub(crate) fn level_of(&self, channel: u8) -> u8
+        requires { channel < 16 }
+        ensures { result ≡ level_of (frame_of R.Regime.order H.Host.channels self.now) channel }
+    {
+        self.script.channels[channel as usize].level
+    }
+
     // What an in from the channel lacks.
     fn read_status(&self, level: u8, channel: u8) -> Status
-        requires port { channel < 16 }
-        requires known { channel < (H.Host.channels self.now.host).count }
-        ensures { (t : ℕ) → result ≡ status_of (read_plan (copies_of self.now.copies level) t channel (gets (frame_of R.Regime.order H.Host.channels self.now) (state_of H.Host.channels self.now) level (copies_of self.now.copies level) channel)) }
+        requires { Port H.Host.channels self.now channel }
+        ensures { (t : ℕ) → result ≡ status_of (read_plan (copies_of self.now.course.copies level) t channel (gets (frame_of R.Regime.order H.Host.channels self.now) (state_of H.Host.channels self.now) level (copies_of self.now.course.copies level) channel)) }
     {
         match self.source(level, channel) {
             Source::Default | Source::Tape(_) => Status::Ready,
-            Source::Host => {
-                if self.holds(channel) {
-                    Status::Ready
-                } else {
-                    Status::LacksValue { channel }
-                }
-            }
-            Source::Owner => Status::LacksValue { channel },
+            Source::Host if holds(&self.host, channel) => Status::Ready,
+            Source::Host | Source::Owner => Status::LacksValue { channel },
         }
     }
 
     // What an out to the channel lacks.
     fn write_status(&self, level: u8, channel: u8) -> Status
-        requires port { channel < 16 }
-        requires known { channel < (H.Host.channels self.now.host).count }
-        ensures { (v : ℤ) → result ≡ status_of (write_plan (copies_of self.now.copies level) channel v (level_of (frame_of R.Regime.order H.Host.channels self.now) channel == level) (has_space (frame_of R.Regime.order H.Host.channels self.now) (state_of H.Host.channels self.now) channel)) }
+        requires { Port H.Host.channels self.now channel }
+        ensures { (v : ℤ) → result ≡ status_of (write_plan (copies_of self.now.course.copies level) channel v (level_of (frame_of R.Regime.order H.Host.channels self.now) channel == level) (has_space (frame_of R.Regime.order H.Host.channels self.now) (state_of H.Host.channels self.now) channel)) }
     {
-        if self.script.channels[channel as usize].level != level {
-            return Status::Ready;
-        }
-        if self.has_space(channel) {
+        if self.level_of(channel) != level || has_space(&self.host, channel) {
             Status::Ready
         } else {
             Status::LacksSpace { channel }
@@ -51,30 +49,30 @@ impl<R: Regime, H: Host> Visit<R, H> {
 
     // How the copy at the level stands.
     pub(crate) fn status(&self, level: u8) -> Status
-        requires { self.now.script.channel_count ≤ (H.Host.channels self.now.host).count }
+        requires { Fits R.Regime.order H.Host.channels self.now }
         ensures { result ≡ status_of (plan (frame_of R.Regime.order H.Host.channels self.now) (state_of H.Host.channels self.now) level) }
     {
-        let next = self.copies.next(level) as usize;
+        let next = self.course.copies.next(level) as usize;
         if next >= self.script.instruction_count {
             return Status::Ended;
         }
         match self.script.instructions[next] {
-            Instruction::Input { target: _, channel } => self.read_status(level, channel),
-            Instruction::Output { first: _, channel } => self.write_status(level, channel),
+            Instruction::Input { channel, .. } => self.read_status(level, channel),
+            Instruction::Output { channel, .. } => self.write_status(level, channel),
             _ => Status::Ready,
         }
     }
 
     fn is_ready(&self, level: u8) -> bool
-        requires { self.now.script.channel_count ≤ (H.Host.channels self.now.host).count }
+        requires { Fits R.Regime.order H.Host.channels self.now }
         ensures { result ≡ is_ready (status_of (plan (frame_of R.Regime.order H.Host.channels self.now) (state_of H.Host.channels self.now) level)) }
     {
-        matches!(self.status(level), Status::Ready)
+        self.status(level) == Status::Ready
     }
 
     // The levels whose copies are ready; each is asked once.
     fn ready(&self) -> ReadySet
-        requires { self.now.script.channel_count ≤ (H.Host.channels self.now.host).count }
+        requires { Fits R.Regime.order H.Host.channels self.now }
         ensures { members result ≡ ready_levels (frame_of R.Regime.order H.Host.channels self.now) (state_of H.Host.channels self.now) }
     {
         let mut ready = ReadySet::none();
@@ -88,15 +86,14 @@ impl<R: Regime, H: Host> Visit<R, H> {
 
     // The place in the round of turns. Turns that moved nobody count too, or a wait would show.
     fn place(&self) -> u8
-        ensures { result ≡ self.now.turns % self.now.script.levels }
+        ensures { result ≡ self.now.course.turns % self.now.script.levels }
     {
-        (self.turns % self.script.levels as u32) as u8
+        (self.course.turns % self.script.levels as u32) as u8
     }
 
     // Who moves next.
     pub(crate) fn choose(&self) -> Option<u8>
-        requires enough { self.now.script.channel_count ≤ (H.Host.channels self.now.host).count }
-        requires levels { self.now.script.levels ≡ (R.Regime.order self.now.regime).size }
+        requires { Fits R.Regime.order H.Host.channels self.now }
         ensures picks { result ≡ choice (frame_of R.Regime.order H.Host.channels self.now) (state_of H.Host.channels self.now) }
         ensures inside { IfSome result (λ l. l < 16) }
     {

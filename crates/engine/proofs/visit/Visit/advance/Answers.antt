@@ -1,48 +1,19 @@
-use Rattle.std.proofs.Common.{ℕ, Some, None, Option, sym, ap, ◌∙◌, subst}
-use Rattle.meaning.specs.Visits.{Frame, State, plan, counted, picked}
-use Rattle.engine.specs.Serves.{Does, Memory}
+use Rattle.std.proofs.Common.{ℕ, Option, sym, ap, ◌∙◌, ap₂}
+use Rattle.copies.specs.Held.{copies_of, steps_of, tapes_of}
+use Rattle.copies.specs.declared.table.Copies.{Copies}
+use Rattle.copies.specs.declared.tapes.Tapes.{Tapes}
+use Rattle.meaning.specs.Visits.{Frame, State, plan, picked}
+use Rattle.engine.specs.Serves.{act_of}
 use Rattle.engine.specs.Views.{frame_of, state_of}
-use Rattle.engine.proofs.Moved.{moved, stayed}
+use Rattle.engine.proofs.Moved.{moved}
 use Rattle.engine.proofs.visit.Visit.advance.Goals as goal
 
-pub returns-in-Some-step : goal.returns-in-Some-step
-returns-in-Some-step g c =
-    let v = c.args.self.now in
-    let l = c.in-Some.level in
-    let order = g.R.Regime.order in
-    let channels = g.H.Host.channels in
-    let f : Frame = frame_of order channels v in
-    let s : State = state_of channels v in
-    let h : Frame = frame_of order channels c.step.new.self in
-    let t : State = state_of channels c.step.new.self in
-    let n : State = state_of channels c.count_turn.new.self in
-    let Did : Frame → State → Type 0 = λ a b. Does a b l (plan a b l) (Some c.in-Some-step.act) h t in
-    let did : Did f (counted s) = subst (Did f) c.count_turn.ensures.state (subst (λ (a : Frame). Did a n) c.count_turn.ensures.frame c.in-Some-step.ensures.does) in
-    let both = moved s l (plan f s l) c.in-Some-step.act t did.acts did.after in
-    record {
-      frame = did.frame;
-      after = both.0 ∙ ap (λ (o : Option ℕ). (picked f s o).0) (sym c.in-Some.is);
-      answer = both.1 ∙ ap (λ (o : Option ℕ). (picked f s o).1) (sym c.in-Some.is);
-      memory = subst (λ x. Memory g.H.Host.puts g.H.Host.takes x c.in-Some-step.act c.step.new.self.host) c.count_turn.ensures.host c.in-Some-step.ensures.memory;
-    }
-
-pub returns-in-None : goal.returns-in-None
-returns-in-None g c =
-    let v = c.args.self.now in
-    let l = c.in-Some.level in
-    let order = g.R.Regime.order in
-    let channels = g.H.Host.channels in
-    let f : Frame = frame_of order channels v in
-    let s : State = state_of channels v in
-    let h : Frame = frame_of order channels c.step.new.self in
-    let t : State = state_of channels c.step.new.self in
-    let n : State = state_of channels c.count_turn.new.self in
-    let Did : Frame → State → Type 0 = λ a b. Does a b l (plan a b l) None h t in
-    let did : Did f (counted s) = subst (Did f) c.count_turn.ensures.state (subst (λ (a : Frame). Did a n) c.count_turn.ensures.frame c.in-None.ensures.does) in
-    let both = stayed s l (plan f s l) t did.acts did.after in
-    record {
-      frame = did.frame;
-      after = both.0 ∙ ap (λ (o : Option ℕ). (picked f s o).0) (sym c.in-Some.is);
-      answer = both.1 ∙ ap (λ (o : Option ℕ). (picked f s o).1) (sym c.in-Some.is);
-      memory = c.in-None.ensures.memory ∙ c.count_turn.ensures.host;
-    }
+-- that a turn is counted changes no plan
+pub returns-clause-answer : goal.returns-clause-answer
+returns-clause-answer g c =
+    let l = c.in_ok-level.level in
+    let f : Frame = frame_of g.R.Regime.order g.H.Host.channels c.args.self.now in
+    let s : State = state_of g.H.Host.channels c.args.self.now in
+    let act = λ (x : Copies) (y : Tapes). act_of (plan f (record { turns = s.turns; copy = copies_of x; steps = steps_of x; tape = tapes_of y; lists = s.lists }) l) in
+    let planned = ap₂ act c.count_turn.ensures.copies c.count_turn.ensures.tapes in
+    moved s l (plan f s l) c.in_ok-act.act (c.in_ok-act.ensures.does.acts ∙ planned) ∙ ap (λ (o : Option ℕ). (picked f s o).1) (sym c.in_ok-level.was)

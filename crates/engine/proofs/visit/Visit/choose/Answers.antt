@@ -12,7 +12,7 @@ returns g c =
     let v = c.args.self.now in
     let r = g.R.Regime.order v.regime in
     let law = g.met.R.Regime.lawful v.regime in
-    let place : c.place.result ≡ v.turns % r.size = c.place.ensures ∙ ap (λ (n : ℕ). v.turns % n) c.requires.levels in
+    let place : c.place.result ≡ v.course.turns % r.size = c.place.ensures ∙ ap (λ (n : ℕ). v.course.turns % n) c.requires.levels in
     record {
       picks = c.pick.ensures ∙ ap₂ (λ (p : ℕ) (s : Levels). r.picks p s) place c.ready.ensures;
       inside = all_small c.pick.result (λ a e. let h : a < r.size = (law.ready_only _ _ a (sym c.pick.ensures ∙ e)).0 in omega (arith, law.bounded.1));

@@ -1,0 +1,70 @@
+// What the turns of a visit change.
+ghost use Rattle.std.specs.Prelude.{◌≡◌, ℕ, ◌+◌, ◌<◌, [], length};
+ghost use Rattle.copies.specs.Held.{copies_of, steps_of, tapes_of};
+ghost use Rattle.meaning.specs.Copies.{assign, first, further, go_to};
+ghost use Rattle.meaning.specs.declared.answers.Act.TheVariants.{Inner, Took};
+ghost use Rattle.engine.specs.Courses.{MayAssign, MayRead, MayStep, Went};
+
+use crate::visit::Course;
+use copies::table::Copies;
+use copies::tapes::Tapes;
+
+impl Course {
+    // Every copy and every tape as it begins.
+    pub(crate) fn begin() -> Course
+        ensures turns { result.turns ≡ 0 }
+        ensures copies { (l : ℕ) → copies_of result.copies l ≡ first }
+        ensures steps { (l : ℕ) → steps_of result.copies l ≡ 0 }
+        ensures tapes { (k : ℕ) → tapes_of result.tapes k ≡ [] }
+    {
+        Course {
+            turns: 0,
+            copies: Copies::new(),
+            tapes: Tapes::new(),
+        }
+    }
+
+    // One turn more is counted.
+    pub(crate) fn count_turn(&mut self)
+        requires { self.old.turns < 1000000 }
+        ensures turns { self.new.turns ≡ self.old.turns + 1 }
+        ensures copies { self.new.copies ≡ self.old.copies }
+        ensures tapes { self.new.tapes ≡ self.old.tapes }
+    {
+        self.turns += 1;
+    }
+
+    // The copy goes to an instruction, in one step.
+    pub(crate) fn go_to(&mut self, level: u8, next: u16)
+        requires { MayStep self.old level }
+        ensures { Went self.old self.new level Inner (go_to (copies_of self.old.copies level) next) }
+    {
+        self.copies.go_to(level, next);
+    }
+
+    // The value goes to the copy's register, and the copy goes on, in one step.
+    pub(crate) fn store(&mut self, level: u8, target: u8, value: i32)
+        requires { MayAssign self.old level target }
+        ensures { Went self.old self.new level Inner (assign (copies_of self.old.copies level) target value) }
+    {
+        self.copies.assign(level, target, value);
+    }
+
+    // The same with a value of the channel's tape: the copy's position in it moves on too.
+    pub(crate) fn reuse(&mut self, level: u8, target: u8, channel: u8, value: i32)
+        requires { MayRead self.old level target channel }
+        ensures { Went self.old self.new level Inner (assign (further (copies_of self.old.copies level) channel) target value) }
+    {
+        self.copies.read(level, target, channel, value);
+    }
+
+    // The same with a value of the host, which the tape gets first.
+    pub(crate) fn receive(&mut self, level: u8, target: u8, channel: u8, value: i32)
+        requires may { MayRead self.old level target channel }
+        requires room { length (tapes_of self.old.tapes channel) < 64 }
+        ensures { Went self.old self.new level (Took channel value) (assign (further (copies_of self.old.copies level) channel) target value) }
+    {
+        self.tapes.push(channel, value);
+        self.reuse(level, target, channel, value);
+    }
+}
