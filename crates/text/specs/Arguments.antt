@@ -1,11 +1,11 @@
 -- The words after a command's name. Assumes nothing.
-use Rattle.std.specs.Prelude.{◌≡◌, ℕ, zero, suc, cond, ◌&&◌, ◌⊎◌, List, [], ◌∷◌, length, replicate, ℤ, pos, neg_ℤ, Some, None, Ok, Err, codes, Option, Result, ◌==◌, nat_le, nat_lt}
+use Rattle.std.specs.Prelude.{◌≡◌, ℕ, zero, suc, cond, ◌&&◌, ◌⊎◌, ◌-◌, List, [], ◌∷◌, ◌++◌, length, replicate, ℤ, pos, neg_ℤ, Some, None, Ok, Err, codes, Option, Result, ◌==◌, nat_le, nat_lt}
+use Rattle.std.specs.Borrow.{Bor}
+use Rattle.std.specs.Fn.{Shared}
 use Rattle.std.specs.Option.{ok_or}
 use Rattle.std.specs.Str.{bytes_eq}
 use Rattle.text.specs.declared.error.LineError.{LineError}
 use Rattle.text.specs.declared.error.LineError.TheVariants.{Missing, Extra, Number, Room, Row, Mask, Capacity, Value, Memory}
-use Rattle.text.specs.declared.words.Entry.{Entry}
-use Rattle.text.specs.declared.words.Entry.TheVariants as entry
 use Rattle.text.specs.Answers.{then}
 use Rattle.text.specs.Hex.{decoded, encoded}
 use Rattle.text.specs.Numbers.{number_in}
@@ -59,16 +59,19 @@ abbrev pub value_of : List ℕ → Result ℤ LineError
 value_of [] = Err Value
 value_of (c ∷ cs) = cond (c == 45) (negative (number_in 10 cs)) (positive (number_in 10 (c ∷ cs)))
 
--- what the words of a table are
-abbrev pub entry_of : Entry → List ℕ → Result ℕ LineError
-entry_of entry.Row w = row_of w
-entry_of entry.Capacity w = capacity_of w
+-- k entries at most: what f makes of each word, and the words after them
+abbrev pub entries_from : (List ℕ → Result ℕ LineError) → ℕ → List (List ℕ) → Result (List ℕ × List (List ℕ)) LineError
+entries_from f zero ws = Ok ([], ws)
+entries_from f (suc k) [] = Ok ([], [])
+entries_from f (suc k) (w ∷ ws) = then (f w) (λ r. then (entries_from f k ws) (λ p. Ok (r ∷ p.0, p.1)))
 
 -- k entries: those that are given, and then 0; and the words after them
 abbrev pub table_from : (List ℕ → Result ℕ LineError) → ℕ → List (List ℕ) → Result (List ℕ × List (List ℕ)) LineError
-table_from f zero ws = Ok ([], ws)
-table_from f (suc k) [] = Ok (replicate (suc k) 0, [])
-table_from f (suc k) (w ∷ ws) = then (f w) (λ r. then (table_from f k ws) (λ p. Ok (r ∷ p.0, p.1)))
+table_from f k ws = then (entries_from f k ws) (λ p. Ok (p.0 ++ replicate (k - length p.0) 0, p.1))
+
+-- what `read` answers at a word is what f makes of it
+abbrev pub Reads : {F : Type 0} → Shared F (Bor (List ℕ) × Unit {0}) (Result ℕ LineError) → F → (List ℕ → Result ℕ LineError) → Type 0
+Reads g read f = (w : Bor (List ℕ)) (r : Result ℕ LineError) → g.post read (w, tt) r → r ≡ f w.now
 
 -- what f makes of the first word, and the words after it
 abbrev pub taken : {X : Type 0} → (List ℕ → Result X LineError) → List (List ℕ) → Result (X × List (List ℕ)) LineError

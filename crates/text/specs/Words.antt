@@ -1,7 +1,9 @@
 -- The words of a line. Assumes nothing.
-use Rattle.std.specs.Prelude.{◌≡◌, ℕ, ◌<◌, cond, List, [], ◌∷◌, ◌++◌, length, Some, None, Option}
+use Rattle.std.specs.Prelude.{◌≡◌, ℕ, ◌<◌, cond, List, [], ◌∷◌, ◌++◌, length, Some, None, Ok, Err, Option, Result}
 use Rattle.std.specs.Borrow.{Bor}
 use Rattle.std.specs.Char.{is_ascii_whitespace}
+use Rattle.text.specs.declared.error.LineError.{LineError}
+use Rattle.text.specs.declared.error.LineError.TheVariants.{Missing}
 use Rattle.text.specs.declared.words.Words.{Words}
 
 -- the words ws, after w if that has a letter
@@ -30,3 +32,8 @@ Cut ws w vs = (length w ≡ 0 → (ws ≡ []) × (vs ≡ [])) × (0 < length w �
 abbrev pub First : List (List ℕ) → Option (Bor (List ℕ)) → List (List ℕ) → Type 0
 First ws None vs = (ws ≡ []) × (vs ≡ [])
 First ws (Some w) vs = ws ≡ w.now ∷ vs
+
+-- r is the first of the words ws, with vs after it; a word is missing where there is none
+abbrev pub Next : List (List ℕ) → Result (Bor (List ℕ)) LineError → List (List ℕ) → Type 0
+Next ws (Ok w) vs = ws ≡ w.now ∷ vs
+Next ws (Err e) vs = (e ≡ Missing) × (ws ≡ []) × (vs ≡ [])

@@ -3,25 +3,41 @@ ghost use Rattle.std.specs.Prelude.{◌≡◌};
 ghost use Rattle.text.specs.declared.error.LineError.TheVariants.{Memory};
 
 use std::alloc::{AllocError, AllocFailed};
-use std::fmt;
+use thiserror::Error;
 
-#[derive(Clone, Copy, PartialEq, Eq, Debug)]
+#[derive(Clone, Copy, PartialEq, Eq, Debug, Error)]
 pub enum LineError {
+    #[error("unknown command, see help")]
     Unknown,
+    #[error("a word is missing, see help")]
     Missing,
+    #[error("a word too many, see help")]
     Extra,
+    #[error("an odd number of hex digits")]
     OddHex,
+    #[error("not a hex digit")]
     HexDigit,
+    #[error("not a number from 0 to 18446744073709551615")]
     Number,
+    #[error("room too large, at most 65536")]
     Room,
+    #[error("a row is four hex digits")]
     Row,
+    #[error("a mask is hex digits, of 64 bits at most")]
     Mask,
+    #[error("levels are a ladder, compartments or a map")]
     Shape,
+    #[error("a host is slot or caps")]
     Host,
+    #[error("a capacity is a number from 1 to 65535")]
     Capacity,
+    #[error("a value is a number from -2147483648 to 2147483647")]
     Value,
+    #[error("a host is slot, caps or strip")]
     AnyHost,
+    #[error("too many turns for one line, at most 10000000")]
     Turns,
+    #[error("out of memory")]
     Memory,
 }
 
@@ -38,34 +54,5 @@ impl<T: Drop> From<AllocFailed<T>> for LineError {
 
     fn from(_e: AllocFailed<T>) -> LineError {
         LineError::Memory
-    }
-}
-
-impl LineError {
-    fn text(self) -> &'static str {
-        match self {
-            LineError::Unknown => "unknown command, see help",
-            LineError::Missing => "a word is missing, see help",
-            LineError::Extra => "a word too many, see help",
-            LineError::OddHex => "an odd number of hex digits",
-            LineError::HexDigit => "not a hex digit",
-            LineError::Number => "not a number from 0 to 18446744073709551615",
-            LineError::Room => "room too large, at most 65536",
-            LineError::Row => "a row is four hex digits",
-            LineError::Mask => "a mask is hex digits, of 64 bits at most",
-            LineError::Shape => "levels are a ladder, compartments or a map",
-            LineError::Host => "a host is slot or caps",
-            LineError::Capacity => "a capacity is a number from 1 to 65535",
-            LineError::Value => "a value is a number from -2147483648 to 2147483647",
-            LineError::AnyHost => "a host is slot, caps or strip",
-            LineError::Turns => "too many turns for one line, at most 10000000",
-            LineError::Memory => "out of memory",
-        }
-    }
-}
-
-impl fmt::Display for LineError {
-    fn fmt<W: fmt::Write>(&self, f: &mut fmt::Formatter<W>) -> fmt::Result {
-        f.write_str(self.text())
     }
 }

@@ -1,10 +1,10 @@
 // The words of a line, and what they stand for.
-ghost use Rattle.std.specs.Prelude.{◌≡◌, ℕ, ◌<◌, ◌≤◌, true, false, length, IfOk, vec_items, string_bytes, slice_index};
+ghost use Rattle.std.specs.Prelude.{◌≡◌, ℕ, ◌<◌, ◌≤◌, true, false, List, Result, length, IfOk, vec_items, vec_len, string_bytes, slice_index};
 ghost use Rattle.std.specs.Char.{is_ascii_whitespace};
 ghost use Rattle.std.specs.Str.{bytes_eq};
 ghost use Rattle.text.specs.Answers.{Gives};
-ghost use Rattle.text.specs.Arguments.{Takes, bytes_of, capacity_of, count_of, ended, entry_of, mask_of, negative, positive, room_of, row_of, table_from, taken, value_of, word_of};
-ghost use Rattle.text.specs.Words.{words_of, left, Cut, First};
+ghost use Rattle.text.specs.Arguments.{Reads, Takes, bytes_of, capacity_of, count_of, ended, entries_from, mask_of, negative, positive, room_of, row_of, table_from, taken, value_of, word_of};
+ghost use Rattle.text.specs.Words.{words_of, left, Cut, First, Next};
 
 use crate::error::LineError;
 use crate::hex::{decode, encode};
@@ -13,6 +13,9 @@ use std::alloc::{AllocError, Global};
 
 // A buffer larger than this serves no script.
 const LARGEST_ROOM: usize = 65536;
+
+// Entries for as many levels or channels as there are at most.
+const MOST_ENTRIES: usize = 16;
 
 // What is left of a line.
 #[derive(Clone, Copy)]
@@ -26,12 +29,9 @@ fn word_length(text: &[u8]) -> usize
     ensures solid { (k : ℕ) → k < result → is_ascii_whitespace (slice_index text.now k) ≡ false }
     ensures stops { result < length text.now → is_ascii_whitespace (slice_index text.now result) ≡ true }
 {
-    for (i, c) in text.iter().enumerate() {
-        if c.is_ascii_whitespace() {
-            return i;
-        }
-    }
-    text.len()
+    text.iter()
+        .position(|c| c.is_ascii_whitespace())
+        .unwrap_or(text.len())
 }
 
 // The first word of a text, empty where there is none, and the text after it.
@@ -53,10 +53,9 @@ pub fn is_name(word: &[u8], name: &str) -> bool
 pub fn bytes_of(heap: Global, word: &[u8]) -> Result<Vec<u8>, LineError>
     ensures { Gives vec_items (bytes_of word.now) result }
 {
-    if is_name(word, "-") {
-        Ok(Vec::new(heap))
-    } else {
-        decode(heap, word)
+    match word {
+        b"-" => Ok(Vec::new(heap)),
+        _ => decode(heap, word),
     }
 }
 
@@ -75,10 +74,7 @@ pub fn word_of(heap: Global, bytes: &[u8]) -> Result<String, AllocError>
 fn count_of(word: &[u8]) -> Result<usize, LineError>
     ensures { result ≡ count_of word.now }
 {
-    match parse_number(word) {
-        Some(number) => Ok(number),
-        None => Err(LineError::Number),
-    }
+    parse_number(word).ok_or(LineError::Number)
 }
 
 // The same, of bytes to write to.
@@ -97,66 +93,43 @@ fn room_of(word: &[u8]) -> Result<usize, LineError>
 fn mask_of(word: &[u8]) -> Result<usize, LineError>
     ensures { result ≡ mask_of word.now }
 {
-    match parse_hex(word) {
-        Some(mask) => Ok(mask),
-        None => Err(LineError::Mask),
-    }
+    parse_hex(word).ok_or(LineError::Mask)
 }
 
 // The row of an order map that a word is.
 fn row_of(word: &[u8]) -> Result<u16, LineError>
     ensures { result ≡ row_of word.now }
 {
-    match parse_hex(word) {
-        Some(row) if word.len() == 4 && row < 65536 => Ok(row as u16),
-        _ => Err(LineError::Row),
-    }
+    parse_hex(word)
+        .filter(|_| word.len() == 4)
+        .and_then(|row| u16::try_from(row).ok())
+        .ok_or(LineError::Row)
 }
 
 // The capacity that a word is.
 fn capacity_of(word: &[u8]) -> Result<u16, LineError>
     ensures { result ≡ capacity_of word.now }
 {
-    match parse_number(word) {
-        Some(capacity) if 1 <= capacity && capacity <= 65535 => Ok(capacity as u16),
-        _ => Err(LineError::Capacity),
-    }
-}
-
-// What the words of a table are.
-#[derive(Clone, Copy, PartialEq, Eq, Debug)]
-pub enum Entry {
-    Row,
-    Capacity,
-}
-
-fn entry_of(kind: Entry, word: &[u8]) -> Result<u16, LineError>
-    ensures { result ≡ entry_of kind word.now }
-{
-    match kind {
-        Entry::Row => row_of(word),
-        Entry::Capacity => capacity_of(word),
-    }
+    parse_number(word)
+        .filter(|capacity| *capacity >= 1)
+        .and_then(|capacity| u16::try_from(capacity).ok())
+        .ok_or(LineError::Capacity)
 }
 
 // The value of that size, if it is not too large.
 fn positive_of(size: Option<usize>) -> Result<i32, LineError>
     ensures { result ≡ positive size }
 {
-    match size {
-        Some(n) if n <= 2147483647 => Ok(n as i32),
-        _ => Err(LineError::Value),
-    }
+    size.and_then(|n| i32::try_from(n).ok())
+        .ok_or(LineError::Value)
 }
 
 // The same, below 0.
 fn negative_of(size: Option<usize>) -> Result<i32, LineError>
     ensures { result ≡ negative size }
 {
-    match size {
-        Some(n) if n <= 2147483648 => Ok((0 - n as i64) as i32),
-        _ => Err(LineError::Value),
-    }
+    size.and_then(|n| 0i32.checked_sub_unsigned(u32::try_from(n).ok()?))
+        .ok_or(LineError::Value)
 }
 
 // The value that a word is: digits, after a minus sign if it is below 0.
@@ -186,68 +159,83 @@ impl<'a> Words<'a> {
         if word.is_empty() { None } else { Some(word) }
     }
 
+    // The next word, where there has to be one.
+    pub fn word(&mut self) -> Result<&'a [u8], LineError>
+        ensures { Next (left self.old) result (left self.new) }
+    {
+        self.next_word().ok_or(LineError::Missing)
+    }
+
     // The bytes that the next word stands for.
     pub fn bytes(&mut self, heap: Global) -> Result<Vec<u8>, LineError>
         ensures { Takes vec_items (taken bytes_of (left self.old)) result (left self.new) }
     {
-        match self.next_word() {
-            Some(word) => bytes_of(heap, word),
-            None => Err(LineError::Missing),
-        }
+        bytes_of(heap, self.word()?)
     }
 
     // The number that the next word is.
     pub fn number(&mut self) -> Result<usize, LineError>
         ensures { Takes (λ n. n) (taken count_of (left self.old)) result (left self.new) }
     {
-        match self.next_word() {
-            Some(word) => count_of(word),
-            None => Err(LineError::Missing),
-        }
+        count_of(self.word()?)
     }
 
     // The number of bytes that the next word asks room for.
     pub fn room(&mut self) -> Result<usize, LineError>
         ensures { Takes (λ n. n) (taken room_of (left self.old)) result (left self.new) }
     {
-        match self.next_word() {
-            Some(word) => room_of(word),
-            None => Err(LineError::Missing),
-        }
+        room_of(self.word()?)
     }
 
     // The set that the next word is.
     pub fn mask(&mut self) -> Result<usize, LineError>
         ensures { Takes (λ n. n) (taken mask_of (left self.old)) result (left self.new) }
     {
-        match self.next_word() {
-            Some(word) => mask_of(word),
-            None => Err(LineError::Missing),
-        }
+        mask_of(self.word()?)
     }
 
     // The value that the next word is.
     pub fn value(&mut self) -> Result<i32, LineError>
         ensures { Takes (λ v. v) (taken value_of (left self.old)) result (left self.new) }
     {
-        match self.next_word() {
-            Some(word) => value_of(word),
-            None => Err(LineError::Missing),
-        }
+        value_of(self.word()?)
     }
 
-    // The entries that the next words are, 16 of them at most; those that are not given are 0.
-    pub fn table(&mut self, kind: Entry) -> Result<[u16; 16], LineError>
-        ensures { Takes (λ t. t) (table_from (entry_of kind) 16 (left self.old)) result (left self.new) }
+    // What `read` makes of the words that are left, of 16 of them at most.
+    fn entries<F: Fn(&[u8]) -> Result<u16, LineError>>(
+        &mut self,
+        heap: Global,
+        read: F,
+    ) -> Result<Vec<u16>, LineError>
+        requires { F.IsAlwaysCallable read }
+        ensures are { (f : List ℕ → Result ℕ LineError) → Reads F.Fn read f → Takes vec_items (entries_from f 16 (left self.old)) result (left self.new) }
+        ensures few { IfOk result (λ v. vec_len v ≤ 16) }
     {
-        let mut entries = [0; 16];
-        for i in 0..16 {
+        let mut entries = Vec::new(heap);
+        while entries.len() < MOST_ENTRIES {
             let Some(word) = self.next_word() else {
                 return Ok(entries);
             };
-            entries[i] = entry_of(kind, word)?;
+            entries.push(read(word)?)?;
         }
         Ok(entries)
+    }
+
+    // The capacities that the next words are, 16 of them at most.
+    pub fn capacities(&mut self, heap: Global) -> Result<Vec<u16>, LineError>
+        ensures { Takes vec_items (entries_from capacity_of 16 (left self.old)) result (left self.new) }
+    {
+        self.entries(heap, capacity_of)
+    }
+
+    // The rows of an order map that the next words are, 16 of them at most; those that are not given are 0.
+    pub fn rows(&mut self, heap: Global) -> Result<[u16; 16], LineError>
+        ensures { Takes (λ t. t) (table_from row_of 16 (left self.old)) result (left self.new) }
+    {
+        let given = self.entries(heap, row_of)?;
+        let mut rows = [0; 16];
+        rows[..given.len()].copy_from_slice(given.as_slice());
+        Ok(rows)
     }
 
     // No word is left.

@@ -1,7 +1,0 @@
-use Rattle.text.specs.Arguments.{entry_of}
-use Rattle.text.specs.Words.{left}
-use Rattle.text.proofs.Rows.{Sofar}
-use Rattle.text.proofs.words.Words.table.Given as goal
-
-abbrev pub invariant-loop-i : goal.invariant-loop-i
-invariant-loop-i l = Sofar (entry_of l.initial.kind) (left l.initial.self) l.i l.entries (left l.self)
