@@ -1,4 +1,4 @@
-use Rattle.std.proofs.Common.{rules, length, sym, ◌≡◌, ◌==◌, false, true}
+use Rattle.std.proofs.Common.{rules, ◌≡◌, ◌==◌, false, true}
 use Rattle.format.specs.Numbers.{number}
 use Rattle.record_writer.proofs.Fields.{zero_test}
 use Rattle.record_writer.proofs.encode.append_field.Goals as goal

@@ -1,4 +1,4 @@
-use Rattle.std.proofs.Common.{◌≡◌, ◌+◌, min, length, take, ap, ◌∙◌, arith, length-take}
+use Rattle.std.proofs.Common.{◌+◌, length, take, ap, ◌∙◌, arith, length-take}
 use Rattle.std.specs.List.{flat_map}
 use Rattle.format.specs.Encoding.{encode_channel}
 use Rattle.record_writer.proofs.Lengths.{used, channels_short}
