@@ -7,7 +7,7 @@ use Rattle.std.proofs.lemmas.Nat.{and_shr}
 use Rattle.std.proofs.Math.Nat.{div-eq_of_lt}
 use Rattle.std.proofs.lemmas.Bool.{eqb-true, eq-eqb, cases_lt}
 use Rattle.std.proofs.lemmas.Bool.Decides.{nat_tests}
-use Rattle.class.specs.Compartments.{bit}
+use Rattle.class.specs.Compartments.{bit, Covered, within}
 
 and_low : (a b : ℕ) → bit_and a b % 2 ≡ min (a % 2) (b % 2)
 and_low a b = ap (λ (x : ℕ). x % 2) (and_step a b) ∙ digits_mod (bit_and (a / 2) (b / 2)) {m = 2} (omega arith)
@@ -15,7 +15,7 @@ and_low a b = ap (λ (x : ℕ). x % 2) (and_step a b) ∙ digits_mod (bit_and (a
 and_digit : (a b i : ℕ) → bit_and a b / 2 ^ i % 2 ≡ min (a / 2 ^ i % 2) (b / 2 ^ i % 2)
 and_digit a b i = ap (λ (x : ℕ). x % 2) (and_shr a b i) ∙ and_low (a / 2 ^ i) (b / 2 ^ i)
 
-pub bits_from_and : (a b : ℕ) → bit_and a b ≡ a → (i : ℕ) → bit a i ≡ true → bit b i ≡ true
+pub bits_from_and : (a b : ℕ) → bit_and a b ≡ a → Covered a b
 bits_from_and a b e i t =
     let d = and_digit a b i in
     let q : bit_and a b / 2 ^ i % 2 ≡ a / 2 ^ i % 2 = ap (λ (x : ℕ). x / 2 ^ i % 2) e in
@@ -25,9 +25,9 @@ bits_from_and a b e i t =
 half_bit : (w i : ℕ) → bit (w / 2) i ≡ bit w (1 + i)
 half_bit w i = ap (λ (x : ℕ). nat_eq (x % 2) 1) (shr-shr w 1 i)
 
-pub and_from_bits : (a b : ℕ) → ((i : ℕ) → bit a i ≡ true → bit b i ≡ true) → bit_and a b ≡ a
+pub and_from_bits : (a b : ℕ) → Covered a b → bit_and a b ≡ a
 and_from_bits =
-    bin_ind (λ (n : ℕ). (b : ℕ) → ((i : ℕ) → bit n i ≡ true → bit b i ≡ true) → bit_and n b ≡ n) (λ b h. refl)
+    bin_ind (λ (n : ℕ). (b : ℕ) → Covered n b → bit_and n b ≡ n) (λ b h. refl)
     (λ n ih b h.
     let high = ih (b / 2) (λ i t. half_bit b i ∙ h (1 + i) (sym (half_bit n i) ∙ t)) in
     let low = h 0 in
@@ -61,5 +61,5 @@ blank_decides w k = (
 pub no_bit : (a : ℕ) → bit 0 a ≢ true
 no_bit a t = let h = low_bits 0 0 a (omega arith) t in omega arith
 
-pub within_decides : (a b : ℕ) → Decides (bit_and a b == a) ((i : ℕ) → bit a i ≡ true → bit b i ≡ true)
+pub within_decides : (a b : ℕ) → Decides (within a b) (Covered a b)
 within_decides a b = (λ e. bits_from_and a b (eqb-true (bit_and a b) a e), λ h. eq-eqb (bit_and a b) a (and_from_bits a b h))

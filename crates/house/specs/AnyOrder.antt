@@ -19,4 +19,4 @@ order_of (any.Map r) = map.order_of r
 pub any_lawful : (a : AnyRegime) → Lawful (order_of a)
 any_lawful (any.Ladder r) = ladder_lawful r.levels r.bounded.0 r.bounded.1
 any_lawful (any.Compartments r) = compartments_lawful r.marks r.bounded
-any_lawful (any.Map r) = mapped_lawful r.levels r.rows (accepted r.levels r.rows r.accepted)
+any_lawful (any.Map r) = mapped_lawful r.table.levels r.table.rows (accepted r.table.levels r.table.rows r.accepted)

@@ -16,13 +16,16 @@ abbrev pub mapped : ℕ → List ℕ → Order
 mapped n rows = record { size = n; flows = told rows; picks = own_turn n }
 
 -- what is judged one after another, over the levels below n: no one at or beyond n, and the three laws of order
+abbrev pub RowClear : ℕ → List ℕ → ℕ → Type 0
+RowClear n rows b = (a : ℕ) → told rows a b ≡ true → (a < n) × (b < n)
+
 abbrev pub Clear : ℕ → List ℕ → Type 0
 Clear n rows = (a b : ℕ) → told rows a b ≡ true → (a < n) × (b < n)
 
 abbrev pub Itself : ℕ → List ℕ → Type 0
 Itself n rows = (a : ℕ) → a < n → told rows a a ≡ true
 
-abbrev pub OneWayFrom : ℕ → List ℕ → ℕ → Type 0
+unfoldable pub OneWayFrom : ℕ → List ℕ → ℕ → Type 0
 OneWayFrom n rows a = (b : ℕ) → b < n → told rows a b ≡ true → told rows b a ≡ true → a ≡ b
 
 abbrev pub OneWay : ℕ → List ℕ → Type 0
@@ -31,7 +34,7 @@ OneWay n rows = (a : ℕ) → a < n → OneWayFrom n rows a
 abbrev pub OnwardThrough : ℕ → List ℕ → ℕ → ℕ → Type 0
 OnwardThrough n rows a b = (c : ℕ) → c < n → told rows a b ≡ true → told rows b c ≡ true → told rows a c ≡ true
 
-abbrev pub OnwardFrom : ℕ → List ℕ → ℕ → Type 0
+unfoldable pub OnwardFrom : ℕ → List ℕ → ℕ → Type 0
 OnwardFrom n rows a = (b : ℕ) → b < n → OnwardThrough n rows a b
 
 abbrev pub Onward : ℕ → List ℕ → Type 0

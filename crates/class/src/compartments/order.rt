@@ -51,10 +51,6 @@ impl Regime for Compartments {
 
     // A level that is not ready loses its turn: passing it on would show who waits.
     fn pick(&self, place: u8, ready: ReadySet) -> Option<u8> {
-        if place < self.levels() && ready.contains(place) {
-            Some(place)
-        } else {
-            None
-        }
+        ready.own_turn(self.levels(), place)
     }
 }

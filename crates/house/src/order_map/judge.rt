@@ -1,14 +1,15 @@
-// Whether rows make an order.
+// Whether a table of levels tells an order.
 ghost use Rattle.std.specs.Prelude.{◌≡◌, ℕ, ◌<◌, ◌≤◌, true, Decides};
+ghost use Rattle.regime.specs.Order.{Partial};
 ghost use Rattle.class.specs.Compartments.{bit};
-ghost use Rattle.house.specs.Rows.{Clear, Itself, OneWay, OneWayFrom, Onward, OnwardFrom, OnwardThrough, told};
+ghost use Rattle.house.specs.Rows.{Clear, Itself, OneWay, OneWayFrom, Onward, OnwardFrom, OnwardThrough, RowClear, told};
 
-// Is bit `a` of row `b` one?
-pub(crate) fn is_told(rows: &[u16; 16], a: u8, b: u8) -> bool
-    requires { (a < 16) × (b < 16) }
-    ensures { result ≡ told rows.now a b }
-{
-    (rows[b as usize] >> a) % 2 == 1
+// Levels and which flows to which: bit a of row b says that level a flows to level b.
+#[derive(Clone, Copy)]
+pub(crate) struct Table {
+    pub(crate) levels: u8,
+    pub(crate) rows: [u16; 16],
+    ghost few: { levels ≤ 16 },
 }
 
 // Has `row` no one bit at or beyond `from`?
@@ -19,94 +20,82 @@ fn is_blank(row: u16, from: u8) -> bool
     u32::from(row) >> from == 0
 }
 
-// No one at or beyond `n`.
-pub(crate) fn is_clear(n: u8, rows: &[u16; 16]) -> bool
-    requires { n ≤ 16 }
-    ensures { Decides result (Clear n rows.now) }
-{
-    for (b, row) in rows.iter().enumerate() {
-        let from = if b < usize::from(n) { n } else { 0 };
-        if !is_blank(*row, from) {
-            return false;
-        }
+impl Table {
+    // Is bit `a` of row `b` one?
+    pub(crate) fn tells(&self, a: u8, b: u8) -> bool
+        requires { (a < 16) × (b < 16) }
+        ensures { result ≡ told self.now.rows a b }
+    {
+        (self.rows[b as usize] >> a) % 2 == 1
     }
-    true
-}
 
-// Each level flows to itself.
-pub(crate) fn is_reflexive(n: u8, rows: &[u16; 16]) -> bool
-    requires { n ≤ 16 }
-    ensures { Decides result (Itself n rows.now) }
-{
-    for a in 0..n {
-        if !is_told(rows, a, a) {
-            return false;
-        }
+    // No one in row `b` at or beyond the number of levels, and none at all where `b` is no level.
+    fn is_row_clear(&self, b: u8) -> bool
+        requires { b < 16 }
+        ensures { Decides result (RowClear self.now.levels self.now.rows b) }
+    {
+        let n = self.levels;
+        let from = if b < n { n } else { 0 };
+        is_blank(self.rows[b as usize], from)
     }
-    true
-}
 
-// Does level `a` flow both ways with no other level?
-fn is_one_way_from(n: u8, rows: &[u16; 16], a: u8) -> bool
-    requires { (n ≤ 16) × (a < n) }
-    ensures { Decides result (OneWayFrom n rows.now a) }
-{
-    for b in 0..n {
-        if a != b && is_told(rows, a, b) && is_told(rows, b, a) {
-            return false;
-        }
+    // The same in every row.
+    fn is_clear(&self) -> bool
+        ensures { Decides result (Clear self.now.levels self.now.rows) }
+    {
+        (0..16).all(|b| self.is_row_clear(b))
     }
-    true
-}
 
-// No two different levels flow both ways.
-pub(crate) fn is_one_way(n: u8, rows: &[u16; 16]) -> bool
-    requires { n ≤ 16 }
-    ensures { Decides result (OneWay n rows.now) }
-{
-    for a in 0..n {
-        if !is_one_way_from(n, rows, a) {
-            return false;
-        }
+    // Each level flows to itself.
+    fn is_reflexive(&self) -> bool
+        ensures { Decides result (Itself self.now.levels self.now.rows) }
+    {
+        (0..self.levels).all(|a| self.tells(a, a))
     }
-    true
-}
 
-// Does level `a` flow to all that `b` flows to, if it flows to `b`?
-fn flows_on_through(n: u8, rows: &[u16; 16], a: u8, b: u8) -> bool
-    requires { (n ≤ 16) × ((a < n) × (b < n)) }
-    ensures { Decides result (OnwardThrough n rows.now a b) }
-{
-    for c in 0..n {
-        if is_told(rows, a, b) && is_told(rows, b, c) && !is_told(rows, a, c) {
-            return false;
-        }
+    // Does level `a` flow both ways with no other level?
+    fn is_one_way_from(&self, a: u8) -> bool
+        requires { a < self.now.levels }
+        ensures { Decides result (OneWayFrom self.now.levels self.now.rows a) }
+    {
+        (0..self.levels).all(|b| a == b || !(self.tells(a, b) && self.tells(b, a)))
     }
-    true
-}
 
-// The same through every level.
-fn flows_on_from(n: u8, rows: &[u16; 16], a: u8) -> bool
-    requires { (n ≤ 16) × (a < n) }
-    ensures { Decides result (OnwardFrom n rows.now a) }
-{
-    for b in 0..n {
-        if !flows_on_through(n, rows, a, b) {
-            return false;
-        }
+    // No two different levels flow both ways.
+    fn is_one_way(&self) -> bool
+        ensures { Decides result (OneWay self.now.levels self.now.rows) }
+    {
+        (0..self.levels).all(|a| self.is_one_way_from(a))
     }
-    true
-}
 
-// What flows on has flowed.
-pub(crate) fn is_transitive(n: u8, rows: &[u16; 16]) -> bool
-    requires { n ≤ 16 }
-    ensures { Decides result (Onward n rows.now) }
-{
-    for a in 0..n {
-        if !flows_on_from(n, rows, a) {
-            return false;
-        }
+    // Does level `a` flow to all that `b` flows to, if it flows to `b`?
+    fn flows_on_through(&self, a: u8, b: u8) -> bool
+        requires { (a < self.now.levels) × (b < self.now.levels) }
+        ensures { Decides result (OnwardThrough self.now.levels self.now.rows a b) }
+    {
+        (0..self.levels).all(|c| !(self.tells(a, b) && self.tells(b, c)) || self.tells(a, c))
     }
-    true
+
+    // The same through every level.
+    fn flows_on_from(&self, a: u8) -> bool
+        requires { a < self.now.levels }
+        ensures { Decides result (OnwardFrom self.now.levels self.now.rows a) }
+    {
+        (0..self.levels).all(|b| self.flows_on_through(a, b))
+    }
+
+    // What flows on has flowed.
+    fn is_transitive(&self) -> bool
+        ensures { Decides result (Onward self.now.levels self.now.rows) }
+    {
+        (0..self.levels).all(|a| self.flows_on_from(a))
+    }
+
+    // Is flow, as the rows tell it, a partial order of the levels?
+    #[tactic(auto, unfolding(crate::specs::Rows::OneWayFrom, crate::specs::Rows::OnwardFrom))]
+    pub(crate) fn is_order(&self) -> bool
+        ensures { Decides result (Partial self.now.levels (told self.now.rows)) }
+    {
+        self.is_clear() && self.is_reflexive() && self.is_one_way() && self.is_transitive()
+    }
 }

@@ -6,7 +6,7 @@ ghost use Rattle.house.specs.Rows.{Accepted, mapped};
 ghost use Rattle.house.specs.Shown.{accepted, mapped_lawful};
 
 use crate::order_map::OrderMap;
-use crate::order_map::judge::{is_clear, is_one_way, is_reflexive, is_told, is_transitive};
+use crate::order_map::judge::Table;
 use refusal::Refusal;
 use regime::ready::ReadySet;
 use regime::rules::Regime;
@@ -19,12 +19,9 @@ impl OrderMap {
         if n < 1 || n > 16 {
             return Err(Refusal::Order);
         }
-        if is_clear(n, &rows)
-            && is_reflexive(n, &rows)
-            && is_one_way(n, &rows)
-            && is_transitive(n, &rows)
-        {
-            Ok(OrderMap { levels: n, rows })
+        let table = Table { levels: n, rows };
+        if table.is_order() {
+            Ok(OrderMap { table })
         } else {
             Err(Refusal::Order)
         }
@@ -34,22 +31,19 @@ impl OrderMap {
 impl Regime for OrderMap {
     ghost order = { order_of };
 
-    ghost lawful = { λ r. mapped_lawful r.levels r.rows (accepted r.levels r.rows r.accepted) };
+    ghost lawful = { λ r. mapped_lawful r.table.levels r.table.rows (accepted r.table.levels r.table.rows r.accepted) };
 
     fn levels(&self) -> u8 {
-        self.levels
+        self.table.levels
     }
 
     fn flows(&self, a: u8, b: u8) -> bool {
-        a < self.levels && b < self.levels && is_told(&self.rows, a, b)
+        let n = self.levels();
+        a < n && b < n && self.table.tells(a, b)
     }
 
     // As in compartments, a level that is not ready loses its turn.
     fn pick(&self, place: u8, ready: ReadySet) -> Option<u8> {
-        if place < self.levels && ready.contains(place) {
-            Some(place)
-        } else {
-            None
-        }
+        ready.own_turn(self.table.levels, place)
     }
 }

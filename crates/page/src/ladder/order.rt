@@ -2,7 +2,7 @@
 ghost use Rattle.std.specs.Prelude.{◌≡◌};
 ghost use Rattle.regime.specs.Members.{members};
 ghost use Rattle.regime.specs.Order.{nearest};
-ghost use Rattle.page.specs.Ladder.{Lowest, PicksLowest, ladder as rungs};
+ghost use Rattle.page.specs.Ladder.{PicksLowest, ladder as rungs, lowest};
 ghost use Rattle.page.specs.Laddered.{order_of};
 ghost use Rattle.page.specs.Rungs.{ladder_lawful};
 
@@ -14,7 +14,7 @@ use regime::rules::Regime;
 fn rungs_for(n: u8) -> u8
     ensures { result ≡ nearest 1 16 n }
 {
-    n.min(16).max(1)
+    n.clamp(1, 16)
 }
 
 impl Ladder {
@@ -31,14 +31,9 @@ impl Ladder {
 
 // The lowest member below `n`.
 fn lowest(n: u8, ready: &ReadySet) -> Option<u8>
-    ensures { Lowest n (members ready.now) result }
+    ensures { result ≡ lowest n (members ready.now) }
 {
-    for i in 0..n {
-        if ready.contains(i) {
-            return Some(i);
-        }
-    }
-    None
+    (0..n).find(|level| ready.contains(*level))
 }
 
 impl Regime for Ladder {
