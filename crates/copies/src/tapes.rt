@@ -3,7 +3,9 @@ ghost use Rattle.std.specs.Prelude.{◌≡◌, ◌≤◌, length};
 
 pub mod values;
 
-// The tape of one channel: the first `len` values count.
+// The tape of one channel: the first `len` values count. The length is one byte, since what a visit takes in memory is
+// fixed and printed (an ArrayVec's is eight, and it is not Copy); so is the usize of a page's queue of 32, which has the
+// same form: one type for both would change one of the two sizes.
 #[derive(Clone, Copy)]
 pub struct Tape {
     values: [i32; 64],

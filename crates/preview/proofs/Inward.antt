@@ -1,16 +1,18 @@
 -- What is answered about a channel, by what the script says of it. Assumes nothing.
 use Rattle.std.proofs.Common.{◌≡◌, ℕ, ◌<◌, ◌≤◌, Bool, true, false, cond, nat_lt, List, length, take, get_or, ℤ, Ok, Err, Result, sym, refl, ap, ◌∙◌, arith}
-use Rattle.std.proofs.lemmas.Bool.{lt-ltb, le-ltb, ltb-true}
+use Rattle.std.proofs.lemmas.Bool.{lt-ltb, le-ltb}
 use Rattle.std.proofs.lemmas.List.{get_or-take, get_or_default, length-take-le}
 use Rattle.script.specs.Laws.{blank, same}
 use Rattle.script.specs.declared.parts.Channel.{Channel as AChannel}
 use Rattle.script.specs.declared.parts.Direction.{Direction as ADirection}
 use Rattle.script.specs.declared.parts.Direction.TheVariants.{Out}
 use Rattle.refusal.specs.declared.Refusal.{Refusal}
-use Rattle.refusal.specs.declared.Refusal.TheVariants.{Channel, Direction, Full}
-use Rattle.host.specs.Channels.{push_answer}
+use Rattle.refusal.specs.declared.Refusal.TheVariants.{Channel, Direction}
+use mathlib.Core.Path.{fun_ext}
+use Rattle.host.proofs.Lists.{stays}
+use Rattle.meaning.specs.Copies.{with_at}
 use Rattle.meaning.specs.Programs.{Program, outward_at}
-use Rattle.preview.specs.Views.{of_inward, give_answer, add_answer}
+use Rattle.preview.specs.Views.{of_inward, give_answer}
 
 -- an answer
 abbrev Judged : Type 0
@@ -61,17 +63,6 @@ accepted_by true false r h = refl
 pub accepted_then : (sc : Program) (k : ℕ) (r : Judged) → Ok tt ≡ give_answer sc k → r ≡ of_inward sc k r
 accepted_then sc k r h = accepted_by (nat_lt k sc.channel_count) (outward_at sc k) r h
 
--- a give is accepted only where the script has the channel
-inside_by : (inside out : Bool) → Ok tt ≡ judged inside out (Ok tt) → inside ≡ true
-inside_by false out h = cc
-inside_by true out h = refl
-
--- the same of a channel
-pub accepted_inside : (sc : Program) (k : ℕ) → Ok tt ≡ give_answer sc k → k < sc.channel_count
-accepted_inside sc k h = ltb-true k sc.channel_count (inside_by (nat_lt k sc.channel_count) (outward_at sc k) h)
-
--- an add where a give would be accepted, by whether the list has room
-pub room_decides : (sc : Program) (k : ℕ) (list : ℕ → List ℤ) (vs : List ℤ) (room : Bool) → Ok tt ≡ give_answer sc k → vs ≡ list k →
-    room ≡ nat_lt (length vs) 64 → ◌≡◌ {A = Judged} (cond room (Ok tt) (Err Full)) (add_answer sc list k)
-room_decides sc k list vs room h e r =
-    ap (λ (b : Bool). cond b (Ok tt) (Err Full)) (r ∙ ap (λ (l : List ℤ). nat_lt (length l) 64) e) ∙ accepted_then sc k (push_answer 64 (list k)) h
+-- lists of which one gets the values that it has
+pub unchanged : (list : ℕ → List ℤ) (k : ℕ) (vs : List ℤ) → vs ≡ list k → with_at list k vs ≡ list
+unchanged list k vs e = fun_ext (stays list k vs e)

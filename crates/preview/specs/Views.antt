@@ -14,13 +14,20 @@ abbrev pub list_in : Option Tape → List ℤ
 list_in (Some t) = tape_of t
 list_in None = []
 
+-- the same in the table of all channels
+abbrev pub given_in : List (Option Tape) → ℕ → Bool
+given_in ls k = slice_index_or (map is_some ls) k false
+
+abbrev pub lists_in : List (Option Tape) → ℕ → List ℤ
+lists_in ls k = slice_index_or (map list_in ls) k []
+
 -- whether channel k is given a list
 abbrev pub given_of : PlainRun → ℕ → Bool
-given_of p k = slice_index_or (map is_some p.lists) k false
+given_of p = given_in p.lists
 
 -- the list of each channel
 abbrev pub lists_of : PlainRun → ℕ → List ℤ
-lists_of p k = slice_index_or (map list_in p.lists) k []
+lists_of p = lists_in p.lists
 
 -- the run whose copy is there, with these values written before
 abbrev pub run_of : PlainRun → (ℕ → List ℤ) → Plain

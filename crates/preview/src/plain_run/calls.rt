@@ -1,11 +1,11 @@
 // The calls of a plain run.
 ghost use Rattle.std.specs.Prelude.{◌≡◌, ℕ, ◌<◌, true, false, []};
 ghost use Rattle.copies.specs.Held.{copy_of, tape_of};
-ghost use Rattle.host.specs.Channels.{IfRefused, on_ok};
+ghost use Rattle.host.specs.Channels.{IfRefused, on_ok, push_answer};
 ghost use Rattle.meaning.specs.Copies.{first, with_at};
 ghost use Rattle.meaning.specs.Programs.{program};
 ghost use Rattle.meaning.specs.Visits.{put_on};
-ghost use Rattle.preview.specs.Views.{add_answer, give_answer, given_of, list_in, lists_of};
+ghost use Rattle.preview.specs.Views.{add_answer, give_answer, given_in, given_of, lists_in, lists_of};
 
 use crate::plain_run::PlainRun;
 use copies::replica::Replica;
@@ -27,11 +27,35 @@ fn judge(script: &Script, channel: u8) -> Result<(), Refusal>
     }
 }
 
-// The list of a channel, empty at first.
-fn begun(list: Option<Tape>) -> Tape
-    ensures { tape_of result ≡ list_in list }
+// Whether the list can hold one value more.
+fn judge_room(list: &Tape) -> Result<(), Refusal>
+    ensures { result ≡ push_answer 64 (tape_of list.now) }
 {
-    list.unwrap_or(Tape::empty())
+    if list.has_room() {
+        Ok(())
+    } else {
+        Err(Refusal::Full)
+    }
+}
+
+// The channel's list, empty if it has none.
+fn list_at(lists: &[Option<Tape>; 16], channel: u8) -> Tape
+    ensures { tape_of result ≡ lists_in lists.now channel }
+{
+    lists
+        .get(channel as usize)
+        .copied()
+        .flatten()
+        .unwrap_or(Tape::empty())
+}
+
+// The channel is given that list.
+fn put(lists: &mut [Option<Tape>; 16], channel: u8, list: Tape)
+    requires { channel < 16 }
+    ensures given { given_in lists.new ≡ with_at (given_in lists.old) channel true }
+    ensures lists { lists_in lists.new ≡ with_at (lists_in lists.old) channel (tape_of list) }
+{
+    lists[channel as usize] = Some(list);
 }
 
 impl PlainRun {
@@ -59,8 +83,8 @@ impl PlainRun {
         ensures refused { IfRefused result (self.new ≡ self.old) }
     {
         judge(&self.script, channel)?;
-        let list = begun(self.lists[channel as usize]);
-        self.lists[channel as usize] = Some(list);
+        let list = list_at(&self.lists, channel);
+        put(&mut self.lists, channel, list);
         Ok(())
     }
 
@@ -74,12 +98,10 @@ impl PlainRun {
         ensures refused { IfRefused result (self.new ≡ self.old) }
     {
         judge(&self.script, channel)?;
-        let mut list = begun(self.lists[channel as usize]);
-        if !list.has_room() {
-            return Err(Refusal::Full);
-        }
+        let mut list = list_at(&self.lists, channel);
+        judge_room(&list)?;
         list.push(value);
-        self.lists[channel as usize] = Some(list);
+        put(&mut self.lists, channel, list);
         Ok(())
     }
 

@@ -63,7 +63,12 @@ impl PlainRun {
         }
         match self.script.instructions[next as usize] {
             Instruction::Input { target, channel } => {
-                read(self.lists[channel as usize], &mut self.copy, target, channel)
+                read(
+                    self.lists[channel as usize],
+                    &mut self.copy,
+                    target,
+                    channel,
+                )
             }
             Instruction::Output { first, channel } => write(&mut self.copy, first, channel),
             inner => {
