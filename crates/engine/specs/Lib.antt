@@ -1,4 +1,3 @@
 pub mod Courses
-pub mod Hosted
 pub mod Serves
 pub mod Views

@@ -12,7 +12,6 @@ pub mod calls;
 mod moves;
 mod standing;
 mod steps;
-mod world;
 
 #[derive(Drop)]
 pub struct Visit<R: Regime, H: Host> {

@@ -7,7 +7,6 @@ ghost use Rattle.meaning.specs.Visits.{framed, opened};
 ghost use Rattle.engine.specs.Serves.{TurnMemory, fitting, judging};
 ghost use Rattle.engine.specs.Views.{Serves, frame_of, opening, state_of};
 
-use crate::visit::world::{put, take};
 use crate::visit::{Course, Visit};
 use host::calls::Host;
 use meaning::answers::{Moved, Standing};
@@ -72,7 +71,7 @@ impl<R: Regime, H: Host> Visit<R, H> {
     {
         self.fit()?;
         self.judge(channel, Direction::In)?;
-        put(&mut self.host, channel, value)
+        self.host.put(channel, value)
     }
 
     // The world takes a value from an out channel.
@@ -83,7 +82,7 @@ impl<R: Regime, H: Host> Visit<R, H> {
     {
         self.fit()?;
         self.judge(channel, Direction::Out)?;
-        take(&mut self.host, channel)
+        self.host.take(channel)
     }
 
     // One turn: the copy that is picked does one instruction, or nobody moves.

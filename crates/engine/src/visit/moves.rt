@@ -12,7 +12,6 @@ ghost use Rattle.engine.specs.Serves.{TurnMemory};
 ghost use Rattle.engine.specs.Views.{Acts, Fits, Port, Running, frame_of, state_of};
 
 use crate::visit::Visit;
-use crate::visit::world::{put, take};
 use copies::arithmetic::apply;
 use copies::rules::Source;
 use host::calls::Host;
@@ -47,12 +46,13 @@ impl<R: Regime, H: Host> Visit<R, H> {
         requires end { length (tapes_of self.old.course.tapes channel) < 64 }
         ensures { Acts R.Regime.order H.Host.channels H.Host.puts H.Host.takes self.old level (λ f s. read_plan (s.copy level) target channel (given from_host (nth (s.lists channel) 0))) result self.new }
     {
-        let value = take(&mut self.host, channel).ok()?;
+        let value = self.host.take(channel).ok()?;
         self.course.receive(level, target, channel, value);
         Some(Act::Took { channel, value })
     }
 
     // An in of the copy at the level.
+    #[tactic(auto, using(meaning::proofs::Listed::nth_none))]
     fn read(&mut self, level: u8, target: u8, channel: u8) -> Option<Act>
         requires running { Running self.old level }
         requires register { target < 16 }
@@ -85,12 +85,13 @@ impl<R: Regime, H: Host> Visit<R, H> {
             self.course.go_to(level, next);
             return Some(Act::Withheld { channel, value });
         }
-        put(&mut self.host, channel, value).ok()?;
+        self.host.put(channel, value).ok()?;
         self.course.go_to(level, next);
         Some(Act::Wrote { channel, value })
     }
 
-    // One instruction of the copy at the level, or nothing if it cannot go on.
+    // One instruction of the copy at the level, or nothing if it cannot go on. A plain run has a like match, over its one copy.
+    // A function for both could ask nothing of its callers, so it would guard levels, registers and places by a match more.
     pub(crate) fn step(&mut self, level: u8) -> Option<Act>
         requires may { MayStep self.old.course level }
         requires fits { Fits R.Regime.order H.Host.channels self.old }

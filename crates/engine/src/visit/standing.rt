@@ -1,12 +1,12 @@
 // How a copy stands, and who moves next.
-ghost use Rattle.std.specs.Prelude.{◌≡◌, ℕ, ◌%◌, ◌<◌, ℤ, IfSome, ◌==◌};
+ghost use Rattle.std.specs.Prelude.{◌≡◌, ℕ, ◌%◌, ◌<◌, ℤ, IfSome, is_some, ◌==◌};
 ghost use Rattle.copies.specs.Held.{copies_of};
+ghost use Rattle.meaning.specs.Copies.{nth};
 ghost use Rattle.meaning.specs.Visits.{choice, gets, has_space, is_ready, level_of, plan, read_plan, ready as ready_levels, status as status_of, write_plan};
 ghost use Rattle.regime.specs.Members.{members};
 ghost use Rattle.engine.specs.Views.{Fits, Port, frame_of, state_of};
 
 use crate::visit::Visit;
-use crate::visit::world::{has_space, holds};
 use copies::rules::Source;
 use host::calls::Host;
 use meaning::answers::Status;
@@ -23,6 +23,23 @@ impl<R: Regime, H: Host> Visit<R, H> {
         self.script.channels[channel as usize].level
     }
 
+    // Does the host hold a value on the channel?
+    #[tactic(auto, using(crate::proofs::Hosted::some_held))]
+    fn holds(&self, channel: u8) -> bool
+        requires { Port H.Host.channels self.now channel }
+        ensures { result ≡ is_some (nth ((state_of H.Host.channels self.now).lists channel) 0) }
+    {
+        self.host.held(channel).is_ok_and(|held| held > 0)
+    }
+
+    // Has it space for one more?
+    fn has_space(&self, channel: u8) -> bool
+        requires { Port H.Host.channels self.now channel }
+        ensures { result ≡ has_space (frame_of R.Regime.order H.Host.channels self.now) (state_of H.Host.channels self.now) channel }
+    {
+        self.host.space(channel).is_ok_and(|space| space > 0)
+    }
+
     // What an in from the channel lacks.
     fn read_status(&self, level: u8, channel: u8) -> Status
         requires { Port H.Host.channels self.now channel }
@@ -30,7 +47,7 @@ impl<R: Regime, H: Host> Visit<R, H> {
     {
         match self.source(level, channel) {
             Source::Default | Source::Tape(_) => Status::Ready,
-            Source::Host if holds(&self.host, channel) => Status::Ready,
+            Source::Host if self.holds(channel) => Status::Ready,
             Source::Host | Source::Owner => Status::LacksValue { channel },
         }
     }
@@ -40,7 +57,7 @@ impl<R: Regime, H: Host> Visit<R, H> {
         requires { Port H.Host.channels self.now channel }
         ensures { (v : ℤ) → result ≡ status_of (write_plan (copies_of self.now.course.copies level) channel v (level_of (frame_of R.Regime.order H.Host.channels self.now) channel == level) (has_space (frame_of R.Regime.order H.Host.channels self.now) (state_of H.Host.channels self.now) channel)) }
     {
-        if self.level_of(channel) != level || has_space(&self.host, channel) {
+        if self.level_of(channel) != level || self.has_space(channel) {
             Status::Ready
         } else {
             Status::LacksSpace { channel }

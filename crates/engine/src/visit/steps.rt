@@ -1,5 +1,5 @@
 // What the turns of a visit change.
-ghost use Rattle.std.specs.Prelude.{◌≡◌, ℕ, ◌+◌, ◌<◌, [], length};
+ghost use Rattle.std.specs.Prelude.{◌≡◌, ℕ, suc, ◌<◌, [], length};
 ghost use Rattle.copies.specs.Held.{copies_of, steps_of, tapes_of};
 ghost use Rattle.meaning.specs.Copies.{assign, first, further, go_to};
 ghost use Rattle.meaning.specs.declared.answers.Act.TheVariants.{Inner, Took};
@@ -27,7 +27,7 @@ impl Course {
     // One turn more is counted.
     pub(crate) fn count_turn(&mut self)
         requires { self.old.turns < 1000000 }
-        ensures turns { self.new.turns ≡ self.old.turns + 1 }
+        ensures turns { self.new.turns ≡ suc self.old.turns }
         ensures copies { self.new.copies ≡ self.old.copies }
         ensures tapes { self.new.tapes ≡ self.old.tapes }
     {
@@ -35,6 +35,7 @@ impl Course {
     }
 
     // The copy goes to an instruction, in one step.
+    #[tactic(auto, using(crate::proofs::Allowed::steps_on, crate::proofs::Allowed::paced))]
     pub(crate) fn go_to(&mut self, level: u8, next: u16)
         requires { MayStep self.old level }
         ensures { Went self.old self.new level Inner (go_to (copies_of self.old.copies level) next) }
@@ -43,6 +44,7 @@ impl Course {
     }
 
     // The value goes to the copy's register, and the copy goes on, in one step.
+    #[tactic(auto, using(crate::proofs::Allowed::assigns, crate::proofs::Allowed::paced))]
     pub(crate) fn store(&mut self, level: u8, target: u8, value: i32)
         requires { MayAssign self.old level target }
         ensures { Went self.old self.new level Inner (assign (copies_of self.old.copies level) target value) }
@@ -51,6 +53,7 @@ impl Course {
     }
 
     // The same with a value of the channel's tape: the copy's position in it moves on too.
+    #[tactic(auto, using(crate::proofs::Allowed::reads, crate::proofs::Allowed::paced))]
     pub(crate) fn reuse(&mut self, level: u8, target: u8, channel: u8, value: i32)
         requires { MayRead self.old level target channel }
         ensures { Went self.old self.new level Inner (assign (further (copies_of self.old.copies level) channel) target value) }

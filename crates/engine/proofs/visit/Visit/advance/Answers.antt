@@ -1,19 +1,19 @@
-use Rattle.std.proofs.Common.{ℕ, Option, sym, ap, ◌∙◌, ap₂}
-use Rattle.copies.specs.Held.{copies_of, steps_of, tapes_of}
-use Rattle.copies.specs.declared.table.Copies.{Copies}
-use Rattle.copies.specs.declared.tapes.Tapes.{Tapes}
-use Rattle.meaning.specs.Visits.{Frame, State, plan, picked}
-use Rattle.engine.specs.Serves.{act_of}
 use Rattle.engine.specs.Views.{frame_of, state_of}
 use Rattle.engine.proofs.Moved.{moved}
 use Rattle.engine.proofs.visit.Visit.advance.Goals as goal
 
--- that a turn is counted changes no plan
+pub returns-clause-after : goal.returns-clause-after
+returns-clause-after g c =
+    let v = c.args.self.now in
+    let kept = c.count_turn.ensures in
+    let did = c.in_ok-act.ensures.does in
+    (moved (frame_of g.R.Regime.order g.H.Host.channels v) (g.H.Host.channels v.host).list v.course c.count_turn.new.self kept.turns kept.copies kept.tapes
+    c.in_ok-level.level c.in_ok-act.act (state_of g.H.Host.channels c.step.new.self) did.acts did.after c.args.level c.in_ok-level.was).0
+
 pub returns-clause-answer : goal.returns-clause-answer
 returns-clause-answer g c =
-    let l = c.in_ok-level.level in
-    let f : Frame = frame_of g.R.Regime.order g.H.Host.channels c.args.self.now in
-    let s : State = state_of g.H.Host.channels c.args.self.now in
-    let act = λ (x : Copies) (y : Tapes). act_of (plan f (record { turns = s.turns; copy = copies_of x; steps = steps_of x; tape = tapes_of y; lists = s.lists }) l) in
-    let planned = ap₂ act c.count_turn.ensures.copies c.count_turn.ensures.tapes in
-    moved s l (plan f s l) c.in_ok-act.act (c.in_ok-act.ensures.does.acts ∙ planned) ∙ ap (λ (o : Option ℕ). (picked f s o).1) (sym c.in_ok-level.was)
+    let v = c.args.self.now in
+    let kept = c.count_turn.ensures in
+    let did = c.in_ok-act.ensures.does in
+    (moved (frame_of g.R.Regime.order g.H.Host.channels v) (g.H.Host.channels v.host).list v.course c.count_turn.new.self kept.turns kept.copies kept.tapes
+    c.in_ok-level.level c.in_ok-act.act (state_of g.H.Host.channels c.step.new.self) did.acts did.after c.args.level c.in_ok-level.was).1

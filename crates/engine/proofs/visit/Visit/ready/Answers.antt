@@ -1,5 +1,4 @@
-use Rattle.std.proofs.Common.{◌≡◌, ℕ, ◌+◌, ◌<◌, Bool, ◌&&◌, ltb, sym, ap, ◌∙◌, subst, arith}
-use mathlib.Core.Path.{fun_ext}
+use Rattle.std.proofs.Common.{ℕ, ◌+◌, ◌<◌, Bool, sym, ◌∙◌, subst, arith}
 use Rattle.meaning.specs.Visits.{plan, status, is_ready}
 use Rattle.regime.specs.Members.{members}
 use Rattle.regime.specs.declared.ready.ReadySet.{ReadySet}
@@ -20,10 +19,3 @@ loop-level-preserved g c =
       | then-is_ready w ↦ subst Again (sym w.ready-is) (with_it f i s c.loop-level.invariant (sym c.is_ready.ensures ∙ w.if-is_ready.true) small _ w.insert.ensures)
       | else-is_ready w ↦ subst Again (sym w.ready-is) (without f i s c.loop-level.invariant (sym c.is_ready.ensures ∙ w.if-is_ready.false))
     ]
-
-pub returns : goal.returns
-returns g c =
-    let v = c.args.self.now in
-    let f : ℕ → Bool = λ a. is_ready (status (plan (frame_of g.R.Regime.order g.H.Host.channels v) (state_of g.H.Host.channels v) a)) in
-    let all : c.loop-level.level ≡ v.script.levels = omega arith in
-    fun_ext (λ k. c.loop-level.invariant k ∙ ap (λ (n : ℕ). ltb k n && f k) all)
