@@ -1,8 +1,9 @@
 -- How long records are one after another. Assumes nothing.
-use Rattle.std.proofs.Common.{◌≡◌, ℕ, ◌*◌, ◌≤◌, ◌==◌, min, List, [], ◌∷◌, ◌++◌, length, take, sym, ap, ◌∙◌, ⊎_elim, arith, length-append, length-take}
+use Rattle.std.proofs.Common.{◌≡◌, ℕ, ◌+◌, ◌*◌, ◌<◌, ◌≤◌, ◌==◌, min, List, [], ◌∷◌, ◌++◌, length, get_or, take, sym, ap, ◌∙◌, ⊎_elim, arith, length-append, length-take}
 use Rattle.std.specs.List.{flat_map, sum_by}
+use Rattle.std.proofs.lemmas.List.Concat.{length-flat_map}
 use Rattle.std.proofs.lemmas.List.Sums.{sum_by-cons}
-use Rattle.std.proofs.lemmas.List.{take-take, take_all}
+use Rattle.std.proofs.lemmas.List.{take_more, flat_map_more, take-take, take_all}
 use Rattle.std.proofs.lemmas.Bool.{cases_lt, cases_Bool}
 use Rattle.script.specs.declared.accepted.Script.{Script}
 use Rattle.script.specs.Model.{model_of}
@@ -11,6 +12,14 @@ use Rattle.format.specs.Encoding.{channel_widths, channel_values, encode_channel
 use Rattle.format.proofs.Round.{length_bytes_of}
 use Rattle.script.specs.declared.parts.Channel.{Channel}
 use Rattle.script.specs.declared.parts.Instruction.{Instruction}
+
+-- one record more
+pub longer : {X : Type 0} (enc : X → List ℕ) (xs : List X) (i : ℕ) (d : X) → i < length xs → length (flat_map enc (take (i + 1) xs)) ≡ length (flat_map enc (take i xs)) + length (enc (get_or xs i d))
+longer enc xs i d h = ap (λ l. length (flat_map enc l)) (take_more xs i d h) ∙ ap length (sym (flat_map_more enc [] (take i xs) (get_or xs i d))) ∙ length-append (flat_map enc (take i xs)) (enc (get_or xs i d))
+
+-- records are as long together as they are one by one
+pub joined_length : {X : Type 0} (enc : X → List ℕ) (xs : List X) → length (flat_map enc xs) ≡ sum_by (λ x. length (enc x)) xs
+joined_length enc xs = length-flat_map enc xs
 
 field_short : (w v : ℕ) → length (field_of w v) ≤ w
 field_short w v = ⊎_elim (λ e. rw e (omega arith)) (λ e. rw e (omega (arith, length_bytes_of w v))) (cases_Bool (v == 0))

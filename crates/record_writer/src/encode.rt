@@ -22,7 +22,8 @@ fn append_field<const N: usize>(bytes: &mut RecordBytes, field: [u8; N])
     }
 }
 
-// The map of a channel record.
+// The map of a channel record. Each field's bit stands beside the field's name, here and below: a loop over the fields
+// would need them as one array of slices, and a table of names beside it.
 fn channel_map(code: u8, level: u8) -> u8
     ensures { result ≡ map_of (code ∷ level ∷ []) }
 {

@@ -8,6 +8,7 @@ use crate::encode::FileRecord;
 use script::accepted::Script;
 
 // How many bytes records have one after another.
+#[tactic(auto, using(crate::proofs::Lengths::joined_length))]
 fn records_length<R: FileRecord>(records: &[R]) -> usize
     requires { length records.now ≤ 256 }
     ensures { result ≡ length (flat_map R.FileRecord.encoded records.now) }

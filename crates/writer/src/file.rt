@@ -9,6 +9,7 @@ use refusal::Refusal;
 use script::accepted::Script;
 
 // Writes the bytes from `at` on, and answers the place after them.
+#[tactic(auto, using(crate::proofs::Puts::put_is))]
 fn put(out: &mut [u8], at: usize, bytes: &[u8]) -> usize
     requires { at + length bytes.now ≤ length out.old }
     ensures end { result ≡ at + length bytes.now }
@@ -20,6 +21,7 @@ fn put(out: &mut [u8], at: usize, bytes: &[u8]) -> usize
 }
 
 // Writes the records one after another from `at` on, and answers the place after them.
+#[tactic(auto, using(crate::proofs::Puts::room, crate::proofs::Puts::all_written))]
 fn put_records<R: FileRecord>(out: &mut [u8], at: usize, records: &[R]) -> usize
     requires { at + length (flat_map R.FileRecord.encoded records.now) ≤ length out.old }
     ensures end { result ≡ at + length (flat_map R.FileRecord.encoded records.now) }
