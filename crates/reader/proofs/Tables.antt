@@ -1,5 +1,5 @@
 -- Tables whose first slots were filled. Assumes nothing.
-use Rattle.std.proofs.Common.{◌≡◌, ℕ, ◌+◌, ◌-◌, ◌≤◌, List, [], ◌∷◌, ◌++◌, length, get_or, take, drop, replicate, sym, ap, ◌∙◌, arith, length-append, length-drop}
+use Rattle.std.proofs.Common.{◌≡◌, ℕ, ◌+◌, ◌-◌, ◌≤◌, List, ◌++◌, length, take, drop, replicate, ◌∙◌, arith, length-append, length-drop}
 use lib.ListN.{length-replicate}
 use Rattle.std.proofs.lemmas.List.{get_or-drop, get_or-append_right, take_at}
 use Rattle.script.specs.Laws.{Blank}

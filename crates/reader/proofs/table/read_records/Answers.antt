@@ -1,4 +1,4 @@
-use Rattle.std.proofs.Common.{◌<◌, length, arith}
+use Rattle.std.proofs.Common.{length, arith}
 use Rattle.reader.proofs.Many.{more}
 use Rattle.reader.proofs.table.read_records.Goals as goal
 
