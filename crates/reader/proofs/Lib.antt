@@ -1,4 +1,4 @@
 pub mod Many
-pub mod Heads
+pub mod Tables
 pub mod Whole
 pub mod Cuts

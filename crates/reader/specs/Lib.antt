@@ -1,3 +1,4 @@
 pub mod Filled
+pub mod Left
 pub mod Parsed
 pub mod Split

@@ -3,3 +3,5 @@
 
 pub mod file;
 pub mod split;
+mod table;
+mod unread;
