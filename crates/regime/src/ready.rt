@@ -4,7 +4,7 @@ ghost use Rattle.regime.specs.Members.{members};
 ghost use Rattle.regime.specs.Order.{own_turn};
 
 // The levels that are ready to move, by their numbers. No number from 16 up is ever a member. The array is the set: a
-// flag for each level, in fixed memory.
+// flag for each level, in fixed memory. It is filled by `insert`, since `collect` takes an allocator.
 #[derive(Clone, Copy)]
 pub struct ReadySet {
     flags: [bool; 16],

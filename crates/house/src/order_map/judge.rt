@@ -53,7 +53,8 @@ impl Table {
         (0..self.levels).all(|a| self.tells(a, a))
     }
 
-    // Does level `a` flow both ways with no other level?
+    // Does level `a` flow both ways with no other level? Each depth is a method, here and below: the outer `all` is
+    // proved from its contract, and a closure within a closure would have none.
     fn is_one_way_from(&self, a: u8) -> bool
         requires { a < self.now.levels }
         ensures { Decides result (OneWayFrom self.now.levels self.now.rows a) }

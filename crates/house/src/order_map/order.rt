@@ -16,7 +16,7 @@ impl OrderMap {
     pub fn new(n: u8, rows: [u16; 16]) -> Result<OrderMap, Refusal>
         ensures { MatchResult result (λ m. (order_of m ≡ mapped n rows) × Accepted n rows) (λ e. (e ≡ why.Order) × (Accepted n rows → ⊥)) }
     {
-        if n < 1 || n > 16 {
+        if !(1..=16).contains(&n) {
             return Err(Refusal::Order);
         }
         let table = Table { levels: n, rows };
