@@ -2,14 +2,8 @@
 #![tactic(auto)]
 
 mod answer;
-mod hosted;
-mod levels;
-mod listing;
-mod told;
 
-use answer::{Made, answer_line};
-use hosted::Hosted;
-use levels::Levels;
+use answer::Made;
 use std::fs::File;
 use std::io::{BufRead, BufReader, Read};
 use std::{env, io};
@@ -17,26 +11,24 @@ use std::{env, io};
 // Lines are bytes: one that is not UTF-8 is a bad line like any other.
 fn answer_lines<R: Read + Drop>(rt: &HostRuntime, made: &mut Made, input: R) -> io::Result<()> {
     for line in BufReader::new(rt.alloc(), input)?.split(rt.alloc(), b'\n') {
-        answer_line(rt, made, line?.as_slice())?;
+        made.answer_line(rt, line?.as_slice())?;
     }
     Ok(())
 }
 
 fn run(rt: &HostRuntime) -> io::Result<()> {
     let mut made = Made {
-        levels: Levels::Unmade,
-        host: Hosted::Unmade,
+        levels: None,
+        host: None,
     };
-    let mut named = false;
-    for name in env::args(rt)?.skip(1) {
-        named = true;
+    let mut names = env::args(rt)?.skip(1).peekable();
+    if names.peek().is_none() {
+        return answer_lines(rt, &mut made, rt.stdin());
+    }
+    for name in names {
         answer_lines(rt, &mut made, File::open(rt, name.as_str())?)?;
     }
-    if named {
-        Ok(())
-    } else {
-        answer_lines(rt, &mut made, rt.stdin())
-    }
+    Ok(())
 }
 
 fn main(rt: HostRuntime) -> io::Result<()> {

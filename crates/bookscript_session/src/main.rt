@@ -1,14 +1,10 @@
 // The tool of authors and makers of scripts: it answers the lines that it reads.
 #![tactic(auto)]
 
-mod answer;
 mod hosted;
-mod levels;
 mod lines;
-mod listing;
 mod made;
 mod session;
-mod told;
 mod visited;
 
 use session::answer_lines;
@@ -16,16 +12,14 @@ use std::fs::File;
 use std::{env, io};
 
 fn run(rt: &HostRuntime) -> io::Result<()> {
-    let mut named = false;
-    for name in env::args(rt)?.skip(1) {
-        named = true;
+    let mut names = env::args(rt)?.skip(1).peekable();
+    if names.peek().is_none() {
+        return answer_lines(rt, rt.stdin());
+    }
+    for name in names {
         answer_lines(rt, File::open(rt, name.as_str())?)?;
     }
-    if named {
-        Ok(())
-    } else {
-        answer_lines(rt, rt.stdin())
-    }
+    Ok(())
 }
 
 fn main(rt: HostRuntime) -> io::Result<()> {

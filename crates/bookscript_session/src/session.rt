@@ -1,10 +1,9 @@
 // The rounds of a session: lines before there is a host, lines to a host, lines to a visit.
-use crate::hosted::{
-    Capacities, HostAsked, NewHost, TellsEntries, answer_host, tell_put, tell_take,
-};
+use crate::hosted::{NewHost, TellsEntries, host_asked};
 use crate::lines::Lines;
 use crate::made::Made;
 use crate::visited::{tell_collect, tell_feed, tell_standing, tell_turn, tell_turns};
+use console::command::Command as Plain;
 use engine::visit::Visit;
 use host::calls::Host;
 use house::any_regime::AnyRegime;
@@ -16,21 +15,16 @@ use std::io;
 use std::io::Read;
 use strip::entry::Entry;
 use strip::strips::StripHost;
+use tool::hosted::Capacities;
 
 // No input has as many lines.
 const ROUNDS: usize = usize::MAX;
 
-// What ends the lines to a host: there are no more, or one asks for another host.
-#[derive(Drop)]
-enum Next {
-    End,
-    Host(NewHost),
-}
-
-// The same, or a call of a visit, which opens it.
+// What ends the lines to a host: another host is asked for, or there are no more lines; or a call of a visit, which
+// opens it.
 #[derive(Drop)]
 enum Waited {
-    Next(Next),
+    Next(Option<NewHost>),
     Open(Script, AnyRegime, Command),
 }
 
@@ -51,52 +45,37 @@ fn is_setting_up(command: &Command) -> bool {
     matches!(
         command,
         Command::Script(_)
-            | Command::Ladder(_)
-            | Command::Compartments(_)
-            | Command::Map { .. }
-            | Command::SlotHost
-            | Command::OwnHost(_)
             | Command::StripHost { .. }
-            | Command::Put { .. }
-            | Command::Take(_)
+            | Command::Plain(
+                Plain::Ladder(_)
+                    | Plain::Compartments(_)
+                    | Plain::Map { .. }
+                    | Plain::SlotHost
+                    | Plain::OwnHost(_)
+                    | Plain::Put { .. }
+                    | Plain::Take(_)
+            )
             | Command::Open
     )
 }
 
-// Lines while there is no host.
+// Lines while there is no host; the host that is asked for, unless there are no more.
 fn answer_unhosted<R: Read + Drop>(
     rt: &HostRuntime,
     lines: &mut Lines<R>,
     made: &mut Made,
-) -> io::Result<Next> {
+) -> io::Result<Option<NewHost>> {
     for _ in 0..ROUNDS {
         let Some(command) = lines.next_command(rt)? else {
-            return Ok(Next::End);
+            return Ok(None);
         };
-        match HostAsked::of(rt, &command) {
-            HostAsked::New(host) => return Ok(Next::Host(host)),
-            HostAsked::Wanting => println!(rt; "error out of memory")?,
-            HostAsked::None => made.answer(rt, command)?,
+        match host_asked(rt, &command) {
+            Ok(Some(host)) => return Ok(Some(host)),
+            Ok(None) => made.answer(rt, command)?,
+            Err(error) => println!(rt; "error {error}")?,
         }
     }
-    Ok(Next::End)
-}
-
-// A line to a host that no visit has.
-fn answer_hosted<H: Host + TellsEntries>(
-    rt: &HostRuntime,
-    made: &mut Made,
-    host: &mut H,
-    command: Command,
-) -> io::Result<()> {
-    match command {
-        Command::Put { channel, value } => tell_put(rt, host, channel, value),
-        Command::Take(channel) => tell_take(rt, host, channel),
-        Command::Count | Command::Held(_) | Command::Space(_) | Command::Entries => {
-            answer_host(rt, host, command)
-        }
-        other => made.answer(rt, other),
-    }
+    Ok(None)
 }
 
 // Lines to a host, until a visit is opened or another host is asked for.
@@ -108,22 +87,20 @@ fn wait<R: Read + Drop, H: Host + TellsEntries>(
 ) -> io::Result<Waited> {
     for _ in 0..ROUNDS {
         let Some(command) = lines.next_command(rt)? else {
-            return Ok(Waited::Next(Next::End));
+            return Ok(Waited::Next(None));
         };
-        if is_call(&command) {
-            if let Some(script) = made.script {
-                if let Some(regime) = made.regime {
-                    return Ok(Waited::Open(script, regime, command));
-                }
-            }
+        if is_call(&command)
+            && let Some((script, levels)) = made.ready()
+        {
+            return Ok(Waited::Open(script, levels, command));
         }
-        match HostAsked::of(rt, &command) {
-            HostAsked::New(host) => return Ok(Waited::Next(Next::Host(host))),
-            HostAsked::Wanting => println!(rt; "error out of memory")?,
-            HostAsked::None => answer_hosted(rt, made, host, command)?,
+        match host_asked(rt, &command) {
+            Ok(Some(host)) => return Ok(Waited::Next(Some(host))),
+            Ok(None) => made.answer_with(rt, host, command)?,
+            Err(error) => println!(rt; "error {error}")?,
         }
     }
-    Ok(Waited::Next(Next::End))
+    Ok(Waited::Next(None))
 }
 
 // A line to an open visit.
@@ -142,10 +119,7 @@ fn answer_visit<H: Host + TellsEntries>(
         Command::Turn => tell_turn(rt, visit),
         Command::Turns(count) => tell_turns(rt, visit, count),
         Command::Ask(level) => tell_standing(rt, visit, level),
-        Command::Count | Command::Held(_) | Command::Space(_) | Command::Entries => {
-            answer_host(rt, visit.host(), command)
-        }
-        other => made.answer(rt, other),
+        other => made.answer_about(rt, visit.host(), other),
     }
 }
 
@@ -188,7 +162,7 @@ fn serve<R: Read + Drop, H: Host + TellsEntries + Drop>(
     lines: &mut Lines<R>,
     made: &mut Made,
     host: H,
-) -> io::Result<Next> {
+) -> io::Result<Option<NewHost>> {
     let mut host = host;
     for _ in 0..ROUNDS {
         match wait(rt, lines, made, &mut host)? {
@@ -200,19 +174,19 @@ fn serve<R: Read + Drop, H: Host + TellsEntries + Drop>(
                 let (_, _, back) = visit.end();
                 host = back;
                 if !more {
-                    return Ok(Next::End);
+                    return Ok(None);
                 }
             }
         }
     }
-    Ok(Next::End)
+    Ok(None)
 }
 
 fn serve_slot<R: Read + Drop>(
     rt: &HostRuntime,
     lines: &mut Lines<R>,
     made: &mut Made,
-) -> io::Result<Next> {
+) -> io::Result<Option<NewHost>> {
     println!(rt; "host 16 capacity 32")?;
     serve(rt, lines, made, SlotHost::new())
 }
@@ -222,8 +196,8 @@ fn serve_own<R: Read + Drop>(
     lines: &mut Lines<R>,
     made: &mut Made,
     host: HeapHost,
-    capacities: [u16; 16],
-) -> io::Result<Next> {
+    capacities: &[u16],
+) -> io::Result<Option<NewHost>> {
     println!(rt; "host {} capacity {}", host.count(), Capacities(capacities))?;
     serve(rt, lines, made, host)
 }
@@ -234,7 +208,7 @@ fn serve_strip<R: Read + Drop>(
     made: &mut Made,
     entries: &mut [Entry],
     count: usize,
-) -> io::Result<Next> {
+) -> io::Result<Option<NewHost>> {
     let host = StripHost::new(entries, count);
     println!(rt; "host {} capacity {}", host.count(), host.capacity())?;
     serve(rt, lines, made, host)
@@ -246,10 +220,16 @@ fn round<R: Read + Drop>(
     lines: &mut Lines<R>,
     made: &mut Made,
     host: NewHost,
-) -> io::Result<Next> {
+) -> io::Result<Option<NewHost>> {
     match host {
         NewHost::Slot => serve_slot(rt, lines, made),
-        NewHost::Own { host, capacities } => serve_own(rt, lines, made, host, capacities),
+        NewHost::Own { host, capacities } => serve_own(
+            rt,
+            lines,
+            made,
+            host,
+            capacities.as_slice(),
+        ),
         NewHost::Strip { count, entries } => {
             let mut entries = entries;
             serve_strip(rt, lines, made, entries.as_mut_slice(), count)
@@ -262,14 +242,14 @@ pub fn answer_lines<R: Read + Drop>(rt: &HostRuntime, input: R) -> io::Result<()
     let mut lines = Lines::new(rt, input)?;
     let mut made = Made {
         script: None,
-        regime: None,
+        levels: None,
     };
     let mut next = answer_unhosted(rt, &mut lines, &mut made)?;
     for _ in 0..ROUNDS {
-        next = match next {
-            Next::End => return Ok(()),
-            Next::Host(host) => round(rt, &mut lines, &mut made, host)?,
+        let Some(host) = next else {
+            return Ok(());
         };
+        next = round(rt, &mut lines, &mut made, host)?;
     }
     Ok(())
 }

@@ -1,5 +1,4 @@
 // A visit and the calls on it.
-use crate::hosted::refuse;
 use engine::visit::Visit;
 use host::calls::Host;
 use house::any_regime::AnyRegime;
@@ -7,6 +6,7 @@ use meaning::answers::{Act, Moved};
 use refusal::Refusal;
 use std::{fmt, io};
 use text::number::capped_byte;
+use tool::tell::{refuse, tell, tell_done};
 
 // What a copy did, in words.
 #[derive(Clone, Copy)]
@@ -90,10 +90,7 @@ pub fn tell_feed<H: Host>(
     channel: usize,
     value: i32,
 ) -> io::Result<()> {
-    match visit.feed(capped_byte(channel), value) {
-        Ok(()) => println!(rt; "fed"),
-        Err(refusal) => refuse(rt, refusal),
-    }
+    tell_done(rt, "fed", visit.feed(capped_byte(channel), value))
 }
 
 pub fn tell_collect<H: Host>(
@@ -101,10 +98,7 @@ pub fn tell_collect<H: Host>(
     visit: &mut Visit<AnyRegime, H>,
     channel: usize,
 ) -> io::Result<()> {
-    match visit.collect(capped_byte(channel)) {
-        Ok(value) => println!(rt; "collected {value}"),
-        Err(refusal) => refuse(rt, refusal),
-    }
+    tell(rt, "collected", visit.collect(capped_byte(channel)))
 }
 
 pub fn tell_turn<H: Host>(rt: &HostRuntime, visit: &mut Visit<AnyRegime, H>) -> io::Result<()> {

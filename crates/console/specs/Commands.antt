@@ -1,18 +1,19 @@
 -- What the words of a line ask for. Assumes nothing.
 use Rattle.std.specs.Prelude.{ℕ, Bool, false, cond, List, [], ◌∷◌, ℤ, Some, None, Ok, Err, vec_items, Option, Result, ◌==◌}
+use Rattle.std.specs.Option.{ok_or}
 use Rattle.console.specs.declared.command.Command.{Command}
 use Rattle.console.specs.declared.command.Command.TheVariants as command
 use Rattle.text.specs.declared.error.LineError.{LineError}
-use Rattle.text.specs.declared.error.LineError.TheVariants.{Unknown}
-use Rattle.console.specs.declared.verb.HostKind.{HostKind}
-use Rattle.console.specs.declared.verb.HostKind.TheVariants as kind
-use Rattle.console.specs.declared.verb.Shape.{Shape}
-use Rattle.console.specs.declared.verb.Shape.TheVariants as shape
-use Rattle.console.specs.declared.verb.Verb.{Verb}
-use Rattle.console.specs.declared.verb.Verb.TheVariants as verb
+use Rattle.text.specs.declared.error.LineError.TheVariants as error
+use Rattle.verb.specs.declared.HostKind.{HostKind}
+use Rattle.verb.specs.declared.HostKind.TheVariants as kind
+use Rattle.verb.specs.declared.Shape.{Shape}
+use Rattle.verb.specs.declared.Shape.TheVariants as shape
+use Rattle.verb.specs.declared.Verb.{Verb}
+use Rattle.verb.specs.declared.Verb.TheVariants as verb
 use Rattle.text.specs.Answers.{then}
-use Rattle.text.specs.Arguments.{bytes_of, count_of, mask_of, room_of, row_of, capacity_of, value_of, table_from, taken, ended}
-use Rattle.console.specs.Verbs.{host_of, shape_of, verb_of}
+use Rattle.text.specs.Arguments.{bytes_of, count_of, mask_of, room_of, row_of, capacity_of, value_of, entries_from, table_from, taken, ended}
+use Rattle.verb.specs.Verbs.{host_of, shape_of, verb_of}
 use Rattle.text.specs.Words.{words_of}
 
 -- a command, with the bytes that it holds
@@ -48,7 +49,7 @@ request (command.Map n rows) = map n rows
 request (command.Flows a b) = flows a b
 request (command.Pick p m) = pick p m
 request command.SlotHost = slot_host
-request (command.OwnHost caps) = own_host caps
+request (command.OwnHost caps) = own_host (vec_items caps)
 request (command.Put c v) = put c v
 request (command.Take c) = take c
 request command.Count = count
@@ -84,10 +85,10 @@ levels_asked ws = then (taken shape_of ws) (λ p. by_shape p.0 p.1)
 -- a host of each kind
 abbrev pub by_kind : HostKind → List (List ℕ) → Result (Request × List (List ℕ)) LineError
 by_kind kind.Slot ws = Ok (slot_host, ws)
-by_kind kind.Caps ws = then (table_from capacity_of 16 ws) (λ p. Ok (own_host p.0, p.1))
+by_kind kind.Caps ws = then (entries_from capacity_of 16 ws) (λ p. Ok (own_host p.0, p.1))
 
 abbrev pub host_asked : List (List ℕ) → Result (Request × List (List ℕ)) LineError
-host_asked ws = then (taken host_of ws) (λ p. by_kind p.0 p.1)
+host_asked ws = then (taken (λ w. ok_or (host_of w) error.Host) ws) (λ p. by_kind p.0 p.1)
 
 -- what the words after a command's name ask for, and the words after that
 abbrev pub asked : Verb → List (List ℕ) → Result (Request × List (List ℕ)) LineError
@@ -113,7 +114,7 @@ comment [] = false
 comment (c ∷ cs) = c == 35
 
 abbrev pub by_name : Option Verb → List (List ℕ) → Result (Option Request) LineError
-by_name None ws = Err Unknown
+by_name None ws = Err error.Unknown
 by_name (Some v) ws = then (asked v ws) (λ p. then (ended p.1) (λ _. Ok (Some p.0)))
 
 abbrev pub requested : List (List ℕ) → Result (Option Request) LineError

@@ -3,13 +3,13 @@ ghost use Rattle.std.specs.Prelude.{◌≡◌};
 ghost use Rattle.std.specs.Option.{option_map};
 ghost use Rattle.text.specs.Answers.{Gives};
 ghost use Rattle.text.specs.Arguments.{Takes};
-ghost use Rattle.console.specs.Commands.{asked, comment, host_asked, levels_asked, request, request_of};
+ghost use Rattle.console.specs.Commands.{asked, by_kind, comment, host_asked, levels_asked, request, request_of};
 ghost use Rattle.text.specs.Words.{left};
 
-use crate::verb::{HostKind, Shape, Verb};
 use std::alloc::Global;
 use text::error::LineError;
-use text::words::{Entry, Words};
+use text::words::Words;
+use verb::{HostKind, Shape, Verb};
 
 // What a line asks for, with the files and numbers that it gives.
 #[derive(Drop)]
@@ -25,8 +25,8 @@ pub enum Command {
     Flows { from: usize, to: usize },
     Pick { place: usize, mask: usize },
     SlotHost,
-    // The capacity of each channel; the first that is 0 ends them.
-    OwnHost([u16; 16]),
+    // The capacity of each channel.
+    OwnHost(Vec<u16>),
     Put { channel: usize, value: i32 },
     Take(usize),
     Count,
@@ -36,7 +36,7 @@ pub enum Command {
 }
 
 // A line that begins with `#` is for people.
-fn is_comment(word: &[u8]) -> bool
+pub fn is_comment(word: &[u8]) -> bool
     ensures { result ≡ comment word.now }
 {
     matches!(word, [b'#', ..])
@@ -44,38 +44,40 @@ fn is_comment(word: &[u8]) -> bool
 
 impl Command {
     // The levels that the words ask for.
-    fn levels(words: &mut Words) -> Result<Command, LineError>
+    fn levels(heap: Global, words: &mut Words) -> Result<Command, LineError>
         ensures { Takes request (levels_asked (left words.old)) result (left words.new) }
     {
-        let Some(word) = words.next_word() else {
-            return Err(LineError::Missing);
-        };
-        match Shape::of(word)? {
+        match Shape::of(words.word()?)? {
             Shape::Ladder => Ok(Command::Ladder(words.number()?)),
             Shape::Compartments => Ok(Command::Compartments(words.number()?)),
             Shape::Map => {
                 let levels = words.number()?;
-                let rows = words.table(Entry::Row)?;
+                let rows = words.rows(heap)?;
                 Ok(Command::Map { levels, rows })
             }
         }
     }
 
-    // The host that the words ask for.
-    fn host(words: &mut Words) -> Result<Command, LineError>
-        ensures { Takes request (host_asked (left words.old)) result (left words.new) }
+    // A host of that kind, with what the words say of it.
+    pub fn of_kind(kind: HostKind, heap: Global, words: &mut Words) -> Result<Command, LineError>
+        ensures { Takes request (by_kind kind (left words.old)) result (left words.new) }
     {
-        let Some(word) = words.next_word() else {
-            return Err(LineError::Missing);
-        };
-        match HostKind::of(word)? {
+        match kind {
             HostKind::Slot => Ok(Command::SlotHost),
-            HostKind::Caps => Ok(Command::OwnHost(words.table(Entry::Capacity)?)),
+            HostKind::Caps => Ok(Command::OwnHost(words.capacities(heap)?)),
         }
     }
 
+    // The host that the words ask for.
+    fn host(heap: Global, words: &mut Words) -> Result<Command, LineError>
+        ensures { Takes request (host_asked (left words.old)) result (left words.new) }
+    {
+        let kind = HostKind::of(words.word()?).ok_or(LineError::Host)?;
+        Command::of_kind(kind, heap, words)
+    }
+
     // The command of that name, with the arguments that it takes from the words.
-    fn of(verb: Verb, heap: Global, words: &mut Words) -> Result<Command, LineError>
+    pub fn of(verb: Verb, heap: Global, words: &mut Words) -> Result<Command, LineError>
         ensures { Takes request (asked verb (left words.old)) result (left words.new) }
     {
         match verb {
@@ -92,7 +94,7 @@ impl Command {
                 Ok(Command::Write { file, room })
             }
             Verb::List => Ok(Command::List(words.bytes(heap)?)),
-            Verb::Levels => Command::levels(words),
+            Verb::Levels => Command::levels(heap, words),
             Verb::Flows => {
                 let from = words.number()?;
                 let to = words.number()?;
@@ -103,7 +105,7 @@ impl Command {
                 let mask = words.mask()?;
                 Ok(Command::Pick { place, mask })
             }
-            Verb::Host => Command::host(words),
+            Verb::Host => Command::host(heap, words),
             Verb::Put => {
                 let channel = words.number()?;
                 let value = words.value()?;

@@ -2,4 +2,3 @@
 #![tactic(auto)]
 
 pub mod command;
-pub mod verb;

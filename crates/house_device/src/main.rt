@@ -22,9 +22,7 @@ const CAPACITIES: [usize; 5] = [4, 4, 2, 2, 2];
 fn host(rt: &HostRuntime) -> Option<HeapHost> {
     let mut host = HeapHost::new(rt.alloc());
     for capacity in CAPACITIES {
-        if host.add(rt.alloc(), capacity, &[]).is_err() {
-            return None;
-        }
+        host.add(rt.alloc(), capacity, &[]).ok()?;
     }
     Some(host)
 }

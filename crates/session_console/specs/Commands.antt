@@ -1,43 +1,24 @@
 -- What the words of a line ask for. Assumes nothing.
-use Rattle.std.specs.Prelude.{ℕ, Bool, false, cond, List, [], ◌∷◌, ℤ, Some, None, Ok, Err, vec_items, Option, Result, ◌==◌, nat_le}
+use Rattle.std.specs.Prelude.{ℕ, cond, List, [], ◌∷◌, ℤ, Some, None, Ok, Err, codes, vec_items, Option, Result, nat_le}
+use Rattle.std.specs.Option.{ok_or}
+use Rattle.std.specs.Str.{bytes_eq}
+use Rattle.console.specs.Commands as console
 use Rattle.session_console.specs.declared.command.Command.{Command}
 use Rattle.session_console.specs.declared.command.Command.TheVariants as command
 use Rattle.text.specs.declared.error.LineError.{LineError}
-use Rattle.text.specs.declared.error.LineError.TheVariants.{Turns, Unknown}
-use Rattle.verb.specs.declared.HostKind.{HostKind}
-use Rattle.verb.specs.declared.HostKind.TheVariants as kind
-use Rattle.verb.specs.declared.Shape.{Shape}
-use Rattle.verb.specs.declared.Shape.TheVariants as shape
+use Rattle.text.specs.declared.error.LineError.TheVariants.{AnyHost, Turns, Unknown}
 use Rattle.verb.specs.declared.Verb.{Verb}
-use Rattle.verb.specs.declared.Verb.TheVariants as verb
 use Rattle.verb.specs.declared.VisitVerb.{VisitVerb}
 use Rattle.verb.specs.declared.VisitVerb.TheVariants as visit
 use Rattle.text.specs.Answers.{then}
-use Rattle.text.specs.Arguments.{bytes_of, count_of, mask_of, room_of, row_of, capacity_of, value_of, table_from, taken, ended}
-use Rattle.verb.specs.Verbs.{host_of, shape_of, verb_of}
+use Rattle.text.specs.Arguments.{bytes_of, count_of, room_of, value_of, taken, ended}
+use Rattle.verb.specs.Verbs.{host_of, verb_of, visit_verb_of}
 use Rattle.text.specs.Words.{words_of}
 
--- a command, with the bytes that it holds
+-- a command, with the bytes that it holds: one that needs no visit and no strip, or another
 pub data Request : Type 0 where
-  read : List ℕ → Request
-  show : List ℕ → Request
-  split : List ℕ → ℕ → Request
-  write : List ℕ → ℕ → Request
-  list : List ℕ → Request
-  ladder : ℕ → Request
-  compartments : ℕ → Request
-  map : ℕ → List ℕ → Request
-  flows : ℕ → ℕ → Request
-  pick : ℕ → ℕ → Request
-  slot_host : Request
-  own_host : List ℕ → Request
+  plain : console.Request → Request
   strip_host : ℕ → ℕ → Request
-  put : ℕ → ℤ → Request
-  take : ℕ → Request
-  count : Request
-  held : ℕ → Request
-  space : ℕ → Request
-  help : Request
   script : List ℕ → Request
   open_visit : Request
   feed : ℕ → ℤ → Request
@@ -49,25 +30,8 @@ pub data Request : Type 0 where
   close_visit : Request
 
 abbrev pub request : Command → Request
-request (command.Read f) = read (vec_items f)
-request (command.Show f) = show (vec_items f)
-request (command.Split f i) = split (vec_items f) i
-request (command.Write f n) = write (vec_items f) n
-request (command.List f) = list (vec_items f)
-request (command.Ladder n) = ladder n
-request (command.Compartments k) = compartments k
-request (command.Map n rows) = map n rows
-request (command.Flows a b) = flows a b
-request (command.Pick p m) = pick p m
-request command.SlotHost = slot_host
-request (command.OwnHost caps) = own_host caps
+request (command.Plain c) = plain (console.request c)
 request (command.StripHost c n) = strip_host c n
-request (command.Put c v) = put c v
-request (command.Take c) = take c
-request command.Count = count
-request (command.Held c) = held c
-request (command.Space c) = space c
-request command.Help = help
 request (command.Script f) = script (vec_items f)
 request command.Open = open_visit
 request (command.Feed c v) = feed c v
@@ -82,10 +46,6 @@ request command.Close = close_visit
 abbrev pub of_file : (List ℕ → Request) → List (List ℕ) → Result (Request × List (List ℕ)) LineError
 of_file make ws = then (taken bytes_of ws) (λ p. Ok (make p.0, p.1))
 
--- a request for one file and a number
-abbrev pub of_file_and : (List ℕ → Result ℕ LineError) → (List ℕ → ℕ → Request) → List (List ℕ) → Result (Request × List (List ℕ)) LineError
-of_file_and number make ws = then (taken bytes_of ws) (λ p. then (taken number p.1) (λ q. Ok (make p.0 q.0, q.1)))
-
 -- a request for a number
 abbrev pub of_number : (ℕ → Request) → List (List ℕ) → Result (Request × List (List ℕ)) LineError
 of_number make ws = then (taken count_of ws) (λ p. Ok (make p.0, p.1))
@@ -94,23 +54,16 @@ of_number make ws = then (taken count_of ws) (λ p. Ok (make p.0, p.1))
 abbrev pub of_number_and : {X : Type 0} → (List (List ℕ) → Result (X × List (List ℕ)) LineError) → (ℕ → X → Request) → List (List ℕ) → Result (Request × List (List ℕ)) LineError
 of_number_and next make ws = then (taken count_of ws) (λ p. then (next p.1) (λ q. Ok (make p.0 q.0, q.1)))
 
--- the levels of each kind of regime
-abbrev pub by_shape : Shape → List (List ℕ) → Result (Request × List (List ℕ)) LineError
-by_shape shape.Ladder ws = of_number ladder ws
-by_shape shape.Compartments ws = of_number compartments ws
-by_shape shape.Map ws = of_number_and (table_from row_of 16) map ws
+-- a request that needs no visit and no strip
+abbrev pub of_plain : Result (console.Request × List (List ℕ)) LineError → Result (Request × List (List ℕ)) LineError
+of_plain r = then r (λ p. Ok (plain p.0, p.1))
 
-abbrev pub levels_asked : List (List ℕ) → Result (Request × List (List ℕ)) LineError
-levels_asked ws = then (taken shape_of ws) (λ p. by_shape p.0 p.1)
-
--- a host of each kind
-abbrev pub by_kind : HostKind → List (List ℕ) → Result (Request × List (List ℕ)) LineError
-by_kind kind.Slot ws = Ok (slot_host, ws)
-by_kind kind.Caps ws = then (table_from capacity_of 16 ws) (λ p. Ok (own_host p.0, p.1))
-by_kind kind.Strip ws = of_number_and (taken room_of) strip_host ws
+-- the host of that name
+abbrev pub host_named : List ℕ → List (List ℕ) → Result (Request × List (List ℕ)) LineError
+host_named w ws = cond (bytes_eq w (codes "strip")) (of_number_and (taken room_of) strip_host ws) (then (ok_or (host_of w) AnyHost) (λ k. of_plain (console.by_kind k ws)))
 
 abbrev pub host_asked : List (List ℕ) → Result (Request × List (List ℕ)) LineError
-host_asked ws = then (taken host_of ws) (λ p. by_kind p.0 p.1)
+host_asked ws = then (taken (λ w. Ok w) ws) (λ p. host_named p.0 p.1)
 
 -- turns in a row, ten million at most
 abbrev pub turns_asked : List (List ℕ) → Result (Request × List (List ℕ)) LineError
@@ -128,37 +81,22 @@ visit_asked visit.Ask ws = of_number ask ws
 visit_asked visit.Entries ws = Ok (entries, ws)
 visit_asked visit.Close ws = Ok (close_visit, ws)
 
--- the same for every command
-abbrev pub asked : Verb → List (List ℕ) → Result (Request × List (List ℕ)) LineError
-asked verb.Read ws = of_file read ws
-asked verb.Show ws = of_file show ws
-asked verb.Split ws = of_file_and count_of split ws
-asked verb.Write ws = of_file_and room_of write ws
-asked verb.List ws = of_file list ws
-asked verb.Levels ws = levels_asked ws
-asked verb.Flows ws = of_number_and (taken count_of) flows ws
-asked verb.Pick ws = of_number_and (taken mask_of) pick ws
-asked verb.Host ws = host_asked ws
-asked verb.Put ws = of_number_and (taken value_of) put ws
-asked verb.Take ws = of_number take ws
-asked verb.Count ws = Ok (count, ws)
-asked verb.Held ws = of_number held ws
-asked verb.Space ws = of_number space ws
-asked verb.Help ws = Ok (help, ws)
-asked (verb.Visit v) ws = visit_asked v ws
+-- the same for a command that needs no visit and no strip
+abbrev pub plain_asked : Option Verb → List (List ℕ) → Result (Request × List (List ℕ)) LineError
+plain_asked None ws = Err Unknown
+plain_asked (Some v) ws = of_plain (console.asked v ws)
 
--- a line that begins with # is for people
-abbrev pub comment : List ℕ → Bool
-comment [] = false
-comment (c ∷ cs) = c == 35
+-- and for every command, by its name
+abbrev pub by_visit_verb : Option VisitVerb → List ℕ → List (List ℕ) → Result (Request × List (List ℕ)) LineError
+by_visit_verb (Some v) name ws = visit_asked v ws
+by_visit_verb None name ws = cond (bytes_eq name (codes "host")) (host_asked ws) (plain_asked (verb_of name) ws)
 
-abbrev pub by_name : Option Verb → List (List ℕ) → Result (Option Request) LineError
-by_name None ws = Err Unknown
-by_name (Some v) ws = then (asked v ws) (λ p. then (ended p.1) (λ _. Ok (Some p.0)))
+abbrev pub asked : List ℕ → List (List ℕ) → Result (Request × List (List ℕ)) LineError
+asked name ws = by_visit_verb (visit_verb_of name) name ws
 
 abbrev pub requested : List (List ℕ) → Result (Option Request) LineError
 requested [] = Ok None
-requested (name ∷ ws) = cond (comment name) (Ok None) (by_name (verb_of name) ws)
+requested (name ∷ ws) = cond (console.comment name) (Ok None) (then (asked name ws) (λ p. then (ended p.1) (λ _. Ok (Some p.0))))
 
 -- what a line asks for
 abbrev pub request_of : List ℕ → Result (Option Request) LineError

@@ -3,13 +3,16 @@ ghost use Rattle.std.specs.Prelude.{◌≡◌};
 ghost use Rattle.std.specs.Option.{option_map};
 ghost use Rattle.text.specs.Answers.{Gives};
 ghost use Rattle.text.specs.Arguments.{Takes};
-ghost use Rattle.session_console.specs.Commands.{asked, comment, host_asked, levels_asked, request, request_of, turns_asked, visit_asked};
+ghost use Rattle.session_console.specs.Commands.{asked, host_asked, plain_asked, request, request_of, turns_asked, visit_asked};
 ghost use Rattle.text.specs.Words.{left};
+ghost use Rattle.verb.specs.Verbs.{verb_of};
 
+use console::command;
+use console::command::is_comment;
 use std::alloc::Global;
 use text::error::LineError;
-use text::words::{Entry, Words};
-use verb::{HostKind, Shape, Verb, VisitVerb};
+use text::words::{Words, is_name};
+use verb::{HostKind, Verb, VisitVerb};
 
 // More turns are asked for by more than one line.
 const MOST_TURNS: usize = 10000000;
@@ -17,26 +20,9 @@ const MOST_TURNS: usize = 10000000;
 // What a line asks for, with the files and numbers that it gives.
 #[derive(Drop)]
 pub enum Command {
-    Read(Vec<u8>),
-    Show(Vec<u8>),
-    Split { file: Vec<u8>, index: usize },
-    Write { file: Vec<u8>, room: usize },
-    List(Vec<u8>),
-    Ladder(usize),
-    Compartments(usize),
-    Map { levels: usize, rows: [u16; 16] },
-    Flows { from: usize, to: usize },
-    Pick { place: usize, mask: usize },
-    SlotHost,
-    // The capacity of each channel; the first that is 0 ends them.
-    OwnHost([u16; 16]),
+    // What needs no visit and no strip.
+    Plain(command::Command),
     StripHost { count: usize, entries: usize },
-    Put { channel: usize, value: i32 },
-    Take(usize),
-    Count,
-    Held(usize),
-    Space(usize),
-    Help,
     Script(Vec<u8>),
     Open,
     Feed { channel: usize, value: i32 },
@@ -48,46 +34,22 @@ pub enum Command {
     Close,
 }
 
-// A line that begins with `#` is for people.
-fn is_comment(word: &[u8]) -> bool
-    ensures { result ≡ comment word.now }
-{
-    matches!(word, [b'#', ..])
-}
-
 impl Command {
-    // The levels that the words ask for.
-    fn levels(words: &mut Words) -> Result<Command, LineError>
-        ensures { Takes request (levels_asked (left words.old)) result (left words.new) }
-    {
-        let Some(word) = words.next_word() else {
-            return Err(LineError::Missing);
-        };
-        match Shape::of(word)? {
-            Shape::Ladder => Ok(Command::Ladder(words.number()?)),
-            Shape::Compartments => Ok(Command::Compartments(words.number()?)),
-            Shape::Map => {
-                let levels = words.number()?;
-                let rows = words.table(Entry::Row)?;
-                Ok(Command::Map { levels, rows })
-            }
-        }
-    }
-
     // The host that the words ask for.
-    fn host(words: &mut Words) -> Result<Command, LineError>
+    fn host(heap: Global, words: &mut Words) -> Result<Command, LineError>
         ensures { Takes request (host_asked (left words.old)) result (left words.new) }
     {
-        let Some(word) = words.next_word() else {
-            return Err(LineError::Missing);
-        };
-        match HostKind::of(word)? {
-            HostKind::Slot => Ok(Command::SlotHost),
-            HostKind::Caps => Ok(Command::OwnHost(words.table(Entry::Capacity)?)),
-            HostKind::Strip => {
+        match words.word()? {
+            b"strip" => {
                 let count = words.number()?;
                 let entries = words.room()?;
                 Ok(Command::StripHost { count, entries })
+            }
+            word => {
+                let kind = HostKind::of(word).ok_or(LineError::AnyHost)?;
+                Ok(Command::Plain(command::Command::of_kind(
+                    kind, heap, words,
+                )?))
             }
         }
     }
@@ -125,47 +87,27 @@ impl Command {
         }
     }
 
-    // The command of that name, with the arguments that it takes from the words.
-    fn of(verb: Verb, heap: Global, words: &mut Words) -> Result<Command, LineError>
-        ensures { Takes request (asked verb (left words.old)) result (left words.new) }
+    // The command of that name, of those that need no visit and no strip.
+    fn plain(name: &[u8], heap: Global, words: &mut Words) -> Result<Command, LineError>
+        ensures { Takes request (plain_asked (verb_of name.now) (left words.old)) result (left words.new) }
     {
-        match verb {
-            Verb::Read => Ok(Command::Read(words.bytes(heap)?)),
-            Verb::Show => Ok(Command::Show(words.bytes(heap)?)),
-            Verb::Split => {
-                let file = words.bytes(heap)?;
-                let index = words.number()?;
-                Ok(Command::Split { file, index })
-            }
-            Verb::Write => {
-                let file = words.bytes(heap)?;
-                let room = words.room()?;
-                Ok(Command::Write { file, room })
-            }
-            Verb::List => Ok(Command::List(words.bytes(heap)?)),
-            Verb::Levels => Command::levels(words),
-            Verb::Flows => {
-                let from = words.number()?;
-                let to = words.number()?;
-                Ok(Command::Flows { from, to })
-            }
-            Verb::Pick => {
-                let place = words.number()?;
-                let mask = words.mask()?;
-                Ok(Command::Pick { place, mask })
-            }
-            Verb::Host => Command::host(words),
-            Verb::Put => {
-                let channel = words.number()?;
-                let value = words.value()?;
-                Ok(Command::Put { channel, value })
-            }
-            Verb::Take => Ok(Command::Take(words.number()?)),
-            Verb::Count => Ok(Command::Count),
-            Verb::Held => Ok(Command::Held(words.number()?)),
-            Verb::Space => Ok(Command::Space(words.number()?)),
-            Verb::Help => Ok(Command::Help),
-            Verb::Visit(verb) => Command::visit(verb, heap, words),
+        let Some(verb) = Verb::of(name) else {
+            return Err(LineError::Unknown);
+        };
+        Ok(Command::Plain(command::Command::of(verb, heap, words)?))
+    }
+
+    // The command of that name, with the arguments that it takes from the words.
+    fn of(name: &[u8], heap: Global, words: &mut Words) -> Result<Command, LineError>
+        ensures { Takes request (asked name.now (left words.old)) result (left words.new) }
+    {
+        if let Some(verb) = VisitVerb::of(name) {
+            return Command::visit(verb, heap, words);
+        }
+        if is_name(name, "host") {
+            Command::host(heap, words)
+        } else {
+            Command::plain(name, heap, words)
         }
     }
 
@@ -180,10 +122,7 @@ impl Command {
         if is_comment(name) {
             return Ok(None);
         }
-        let Some(verb) = Verb::of(name) else {
-            return Err(LineError::Unknown);
-        };
-        let command = Command::of(verb, heap, &mut words)?;
+        let command = Command::of(name, heap, &mut words)?;
         words.end()?;
         Ok(Some(command))
     }

@@ -61,9 +61,7 @@ fn write_often(script: &Script, file: &mut [u8; BYTES], times: u32) -> i32 {
 }
 
 pub fn measure_files(rt: &HostRuntime, times: u32) -> anyhow::Result<()> {
-    let Ok(script) = largest() else {
-        return Err(anyhow!("the largest script is not accepted"));
-    };
+    let script = largest().map_err(|_| anyhow!("the largest script is not accepted"))?;
     let mut file = [0; BYTES];
     let start = Instant::now(rt)?;
     let sum = write_often(&script, &mut file, times);

@@ -18,12 +18,8 @@ use std::{env, io};
 
 // Turns of each run: a visit's whole budget if the first argument is `full`, or few, for the gate.
 fn turns_asked(rt: &HostRuntime) -> io::Result<u32> {
-    for word in env::args(rt)?.skip(1) {
-        if word.as_str() == "full" {
-            return Ok(1_000_000);
-        }
-    }
-    Ok(50_000)
+    let full = env::args(rt)?.skip(1).any(|word| word.as_str() == "full");
+    Ok(if full { 1_000_000 } else { 50_000 })
 }
 
 // The bytes of a visit under each regime.

@@ -29,6 +29,7 @@ fn come_by<R: Regime, H: Host>(visit: &mut Visit<R, H>, value: i32, tally: &mut 
 
 // The turns of one visit.
 fn drive<R: Regime, H: Host>(visit: &mut Visit<R, H>, load: &Load, tally: &mut Tally) {
+    // Counted down, so that the turns that are timed have no division between them.
     let mut wait: u32 = 0;
     let mut value: i32 = 0;
     for _ in 0..load.turns {
@@ -44,7 +45,7 @@ fn drive<R: Regime, H: Host>(visit: &mut Visit<R, H>, load: &Load, tally: &mut T
 
 // All visits of a load, one after another, with the host of the one before.
 fn run<R: Regime + Copy, H: Host + Drop>(load: &Load, regime: R, host: H) -> (Tally, H) {
-    let mut tally = Tally::new();
+    let mut tally = Tally::default();
     let mut host = host;
     for _ in 0..load.visits {
         for channel in 0..4 {
@@ -74,9 +75,8 @@ fn measure<R: Regime + Copy, H: Host + Drop>(
     regime: R,
     host: H,
 ) -> anyhow::Result<H> {
-    let Ok(load) = Load::of(row.kind, row.levels, row.turns) else {
-        return Err(anyhow!("a load's script is not accepted"));
-    };
+    let load = Load::of(row.kind, row.levels, row.turns)
+        .map_err(|_| anyhow!("a load's script is not accepted"))?;
     let start = Instant::now(rt)?;
     let (tally, host) = run(&load, regime, host);
     let nanos = start.elapsed(rt)?.as_nanos();

@@ -3,7 +3,7 @@ use meaning::answers::{Act, Moved};
 use refusal::Refusal;
 use std::fmt;
 
-#[derive(Clone, Copy)]
+#[derive(Clone, Copy, Default)]
 pub struct Tally {
     moved: u32,
     nobody: u32,
@@ -25,17 +25,6 @@ fn value_of(act: Act) -> i32 {
 }
 
 impl Tally {
-    pub fn new() -> Tally {
-        Tally {
-            moved: 0,
-            nobody: 0,
-            fed: 0,
-            collected: 0,
-            refused: 0,
-            sum: 0,
-        }
-    }
-
     // The order of what is mixed in counts.
     fn mix(&mut self, value: i32) {
         self.sum = self.sum.wrapping_mul(31).wrapping_add(value);

@@ -25,20 +25,15 @@ visit_verb_of w =
     (cond (bytes_eq w (codes "entries")) (Some visit.Entries)
     (cond (bytes_eq w (codes "close")) (Some visit.Close) None))))))))
 
--- commands about files
-abbrev pub file_verb_of : List ℕ → Option Verb
-file_verb_of w =
+-- commands about files, levels and hosts
+abbrev pub verb_of : List ℕ → Option Verb
+verb_of w =
     cond (bytes_eq w (codes "read")) (Some verb.Read)
     (cond (bytes_eq w (codes "show")) (Some verb.Show)
     (cond (bytes_eq w (codes "split")) (Some verb.Split)
     (cond (bytes_eq w (codes "write")) (Some verb.Write)
     (cond (bytes_eq w (codes "list")) (Some verb.List)
-    (cond (bytes_eq w (codes "help")) (Some verb.Help) None)))))
-
--- commands about levels and hosts
-abbrev pub part_verb_of : List ℕ → Option Verb
-part_verb_of w =
-    cond (bytes_eq w (codes "levels")) (Some verb.Levels)
+    (cond (bytes_eq w (codes "levels")) (Some verb.Levels)
     (cond (bytes_eq w (codes "flows")) (Some verb.Flows)
     (cond (bytes_eq w (codes "pick")) (Some verb.Pick)
     (cond (bytes_eq w (codes "host")) (Some verb.Host)
@@ -46,17 +41,8 @@ part_verb_of w =
     (cond (bytes_eq w (codes "take")) (Some verb.Take)
     (cond (bytes_eq w (codes "count")) (Some verb.Count)
     (cond (bytes_eq w (codes "held")) (Some verb.Held)
-    (cond (bytes_eq w (codes "space")) (Some verb.Space) None))))))))
-
--- the first of three that there is
-abbrev pub first_some : Option VisitVerb → Option Verb → Option Verb → Option Verb
-first_some (Some v) _ _ = Some (verb.Visit v)
-first_some None (Some v) _ = Some v
-first_some None None v = v
-
--- all commands
-abbrev pub verb_of : List ℕ → Option Verb
-verb_of w = first_some (visit_verb_of w) (file_verb_of w) (part_verb_of w)
+    (cond (bytes_eq w (codes "space")) (Some verb.Space)
+    (cond (bytes_eq w (codes "help")) (Some verb.Help) None))))))))))))))
 
 -- the kinds of regime
 abbrev pub shape_of : List ℕ → Result Shape LineError
@@ -65,9 +51,8 @@ shape_of w =
     (cond (bytes_eq w (codes "compartments")) (Ok shape.Compartments)
     (cond (bytes_eq w (codes "map")) (Ok shape.Map) (Err error.Shape)))
 
--- the hosts
-abbrev pub host_of : List ℕ → Result HostKind LineError
+-- the hosts that every program can make
+abbrev pub host_of : List ℕ → Option HostKind
 host_of w =
-    cond (bytes_eq w (codes "slot")) (Ok kind.Slot)
-    (cond (bytes_eq w (codes "caps")) (Ok kind.Caps)
-    (cond (bytes_eq w (codes "strip")) (Ok kind.Strip) (Err error.AnyHost)))
+    cond (bytes_eq w (codes "slot")) (Some kind.Slot)
+    (cond (bytes_eq w (codes "caps")) (Some kind.Caps) None)

@@ -2,13 +2,12 @@
 #![tactic(auto)]
 
 ghost use Rattle.std.specs.Prelude.{◌≡◌};
-ghost use Rattle.verb.specs.Verbs.{file_verb_of, host_of, part_verb_of, shape_of, verb_of, visit_verb_of};
+ghost use Rattle.verb.specs.Verbs.{host_of, shape_of, verb_of, visit_verb_of};
 
 use text::error::LineError;
-use text::words::is_name;
 
 // What a line asks for, by its first word.
-#[derive(Clone, Copy)]
+#[derive(Clone, Copy, PartialEq, Eq, Debug)]
 pub enum Verb {
     Read,
     Show,
@@ -25,74 +24,36 @@ pub enum Verb {
     Held,
     Space,
     Help,
-    Visit(VisitVerb),
 }
 
 impl Verb {
-    // The command of that name, of those about files.
-    fn of_files(word: &[u8]) -> Option<Verb>
-        ensures { result ≡ file_verb_of word.now }
-    {
-        if is_name(word, "read") {
-            Some(Verb::Read)
-        } else if is_name(word, "show") {
-            Some(Verb::Show)
-        } else if is_name(word, "split") {
-            Some(Verb::Split)
-        } else if is_name(word, "write") {
-            Some(Verb::Write)
-        } else if is_name(word, "list") {
-            Some(Verb::List)
-        } else if is_name(word, "help") {
-            Some(Verb::Help)
-        } else {
-            None
-        }
-    }
-
-    // The command of that name, of those about levels and hosts.
-    fn of_parts(word: &[u8]) -> Option<Verb>
-        ensures { result ≡ part_verb_of word.now }
-    {
-        if is_name(word, "levels") {
-            Some(Verb::Levels)
-        } else if is_name(word, "flows") {
-            Some(Verb::Flows)
-        } else if is_name(word, "pick") {
-            Some(Verb::Pick)
-        } else if is_name(word, "host") {
-            Some(Verb::Host)
-        } else if is_name(word, "put") {
-            Some(Verb::Put)
-        } else if is_name(word, "take") {
-            Some(Verb::Take)
-        } else if is_name(word, "count") {
-            Some(Verb::Count)
-        } else if is_name(word, "held") {
-            Some(Verb::Held)
-        } else if is_name(word, "space") {
-            Some(Verb::Space)
-        } else {
-            None
-        }
-    }
-
     // The command of that name.
     pub fn of(word: &[u8]) -> Option<Verb>
         ensures { result ≡ verb_of word.now }
     {
-        if let Some(verb) = VisitVerb::of(word) {
-            return Some(Verb::Visit(verb));
-        }
-        match Verb::of_files(word) {
-            Some(verb) => Some(verb),
-            None => Verb::of_parts(word),
+        match word {
+            b"read" => Some(Verb::Read),
+            b"show" => Some(Verb::Show),
+            b"split" => Some(Verb::Split),
+            b"write" => Some(Verb::Write),
+            b"list" => Some(Verb::List),
+            b"levels" => Some(Verb::Levels),
+            b"flows" => Some(Verb::Flows),
+            b"pick" => Some(Verb::Pick),
+            b"host" => Some(Verb::Host),
+            b"put" => Some(Verb::Put),
+            b"take" => Some(Verb::Take),
+            b"count" => Some(Verb::Count),
+            b"held" => Some(Verb::Held),
+            b"space" => Some(Verb::Space),
+            b"help" => Some(Verb::Help),
+            _ => None,
         }
     }
 }
 
 // What a line asks for of a visit, and of what a visit is made from.
-#[derive(Clone, Copy)]
+#[derive(Clone, Copy, PartialEq, Eq, Debug)]
 pub enum VisitVerb {
     Script,
     Open,
@@ -110,26 +71,17 @@ impl VisitVerb {
     pub fn of(word: &[u8]) -> Option<VisitVerb>
         ensures { result ≡ visit_verb_of word.now }
     {
-        if is_name(word, "script") {
-            Some(VisitVerb::Script)
-        } else if is_name(word, "open") {
-            Some(VisitVerb::Open)
-        } else if is_name(word, "feed") {
-            Some(VisitVerb::Feed)
-        } else if is_name(word, "collect") {
-            Some(VisitVerb::Collect)
-        } else if is_name(word, "turn") {
-            Some(VisitVerb::Turn)
-        } else if is_name(word, "turns") {
-            Some(VisitVerb::Turns)
-        } else if is_name(word, "ask") {
-            Some(VisitVerb::Ask)
-        } else if is_name(word, "entries") {
-            Some(VisitVerb::Entries)
-        } else if is_name(word, "close") {
-            Some(VisitVerb::Close)
-        } else {
-            None
+        match word {
+            b"script" => Some(VisitVerb::Script),
+            b"open" => Some(VisitVerb::Open),
+            b"feed" => Some(VisitVerb::Feed),
+            b"collect" => Some(VisitVerb::Collect),
+            b"turn" => Some(VisitVerb::Turn),
+            b"turns" => Some(VisitVerb::Turns),
+            b"ask" => Some(VisitVerb::Ask),
+            b"entries" => Some(VisitVerb::Entries),
+            b"close" => Some(VisitVerb::Close),
+            _ => None,
         }
     }
 }
@@ -147,39 +99,31 @@ impl Shape {
     pub fn of(word: &[u8]) -> Result<Shape, LineError>
         ensures { result ≡ shape_of word.now }
     {
-        if is_name(word, "ladder") {
-            Ok(Shape::Ladder)
-        } else if is_name(word, "compartments") {
-            Ok(Shape::Compartments)
-        } else if is_name(word, "map") {
-            Ok(Shape::Map)
-        } else {
-            Err(LineError::Shape)
+        match word {
+            b"ladder" => Ok(Shape::Ladder),
+            b"compartments" => Ok(Shape::Compartments),
+            b"map" => Ok(Shape::Map),
+            _ => Err(LineError::Shape),
         }
     }
 }
 
-// The hosts that can be made.
+// The hosts that every program can make.
 #[derive(Clone, Copy, PartialEq, Eq, Debug)]
 pub enum HostKind {
     Slot,
     Caps,
-    Strip,
 }
 
 impl HostKind {
     // The host of that name.
-    pub fn of(word: &[u8]) -> Result<HostKind, LineError>
+    pub fn of(word: &[u8]) -> Option<HostKind>
         ensures { result ≡ host_of word.now }
     {
-        if is_name(word, "slot") {
-            Ok(HostKind::Slot)
-        } else if is_name(word, "caps") {
-            Ok(HostKind::Caps)
-        } else if is_name(word, "strip") {
-            Ok(HostKind::Strip)
-        } else {
-            Err(LineError::AnyHost)
+        match word {
+            b"slot" => Some(HostKind::Slot),
+            b"caps" => Some(HostKind::Caps),
+            _ => None,
         }
     }
 }

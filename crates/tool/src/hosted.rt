@@ -1,0 +1,33 @@
+// The hosts that every program can make.
+use own_host::lanes::HeapHost;
+use std::fmt;
+use text::error::LineError;
+
+// Capacities with commas between them.
+#[derive(Clone, Copy)]
+pub struct Capacities<'a>(pub &'a [u16]);
+
+impl fmt::Display for Capacities<'_> {
+    fn fmt<W: fmt::Write>(&self, f: &mut fmt::Formatter<W>) -> fmt::Result {
+        let [first, rest @ ..] = self.0 else {
+            return f.write_str("-");
+        };
+        write!(f, "{first}")?;
+        for capacity in rest {
+            write!(f, ",{capacity}")?;
+        }
+        Ok(())
+    }
+}
+
+// A host with a channel for each capacity. A command has 16 capacities at most and each is one that a channel can
+// have, so only memory can be wanting.
+pub fn heap_host(rt: &HostRuntime, capacities: &[u16]) -> Result<HeapHost, LineError> {
+    let mut host = HeapHost::new(rt.alloc());
+    for capacity in capacities {
+        if host.add(rt.alloc(), usize::from(*capacity), &[]).is_err() {
+            return Err(LineError::Memory);
+        }
+    }
+    Ok(host)
+}

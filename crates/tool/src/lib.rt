@@ -1,0 +1,11 @@
+// What the command-line tool answers to lines about files, levels and hosts.
+#![tactic(auto)]
+
+pub mod answer;
+pub mod files;
+pub mod help;
+pub mod hosted;
+pub mod levels;
+pub mod listing;
+pub mod tell;
+pub mod told;
