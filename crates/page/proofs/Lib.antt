@@ -1,3 +1,2 @@
 pub mod Finds
-pub mod Queues
 pub mod Slotted

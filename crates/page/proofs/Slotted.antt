@@ -1,19 +1,17 @@
--- The channels of the slot host. Assumes nothing.
-use Rattle.std.proofs.Common.{◌≡◌, ℕ, ◌<◌, cond, eqb, List, [], length, get_or, set, ℤ, sym, ap, ◌∙◌}
+-- The channels of the slot host are a row of queues. Assumes nothing.
+use Rattle.std.proofs.Common.{◌≡◌, ℕ, zero, suc, List, [], ◌∷◌, length, get_or, map, refl, ap, ◌∙◌}
 use mathlib.Core.Path.{fun_ext}
-use Rattle.host.specs.Channels.{with_list}
-use Rattle.host.proofs.Lists.{at_is, at_set}
+use Rattle.host.specs.Queues.{queued}
 use Rattle.page.specs.declared.slots.Queue.{Queue}
-use Rattle.page.specs.Slots.{contents, slots}
+use Rattle.page.specs.Slots.{contents, room, slots}
 
--- what a channel holds is what its queue holds
-pub holds : (qs : List Queue) (i : ℕ) (q : Queue) → i < length qs → q ≡ get_or qs i q → (slots qs).list i ≡ contents q
-holds qs i q lt e = at_is contents qs i q [] lt e
+-- every capacity is 32
+all_alike : (qs : List Queue) (c : ℕ) → get_or (map room qs) c 32 ≡ 32
+all_alike [] c = refl
+all_alike (q ∷ qs) zero = refl
+all_alike (q ∷ qs) (suc c) = all_alike qs c
 
--- a queue that changes changes one channel
-pub changes : (qs : List Queue) (i : ℕ) (q : Queue) (vs : List ℤ) → i < length qs → contents q ≡ vs → slots (set qs i q) ≡ with_list (slots qs) i vs
-changes qs i q vs lt e = ap (λ h. record { count = 16; capacity = λ _. 32; list = h }) (fun_ext (λ d. at_set contents qs i q [] lt d ∙ ap (λ l. cond (eqb d i) l ((slots qs).list d)) e))
-
--- the same, read at its place
-pub shows : (qs : List Queue) (i : ℕ) (q : Queue) → i < length qs → q ≡ get_or qs i q → contents (get_or qs i q) ≡ (slots qs).list i
-shows qs i q lt e = ap contents (sym e) ∙ sym (holds qs i q lt e)
+pub in_a_row : (qs : List Queue) → length qs ≡ 16 → queued contents room 32 qs ≡ slots qs
+in_a_row qs n =
+    ap (λ m. record { count = m; capacity = (queued contents room 32 qs).capacity; list = (slots qs).list }) n
+    ∙ ap (λ h. record { count = 16; capacity = h; list = (slots qs).list }) (fun_ext (all_alike qs))

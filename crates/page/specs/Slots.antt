@@ -9,6 +9,9 @@ use Rattle.page.specs.declared.slots.SlotHost.{SlotHost}
 abbrev pub contents : Queue → List ℤ
 contents q = take q.len q.values
 
+abbrev pub room : Queue → ℕ
+room q = 32
+
 -- 16 channels of capacity 32
 abbrev pub slots : List Queue → Channels
 slots qs = record { count = 16; capacity = λ _. 32; list = λ c. slice_index_or (map contents qs) c [] }
@@ -21,10 +24,3 @@ empty_channels = record { count = 16; capacity = λ _. 32; list = λ _. [] }
 
 pub slots_lawful : (h : SlotHost) → Lawful (channels_of h)
 slots_lawful h = record { few = omega arith; roomy = λ c _. omega arith; bounded = λ c _. omega arith }
-
--- the slot host has no memory of anybody else's, so there is nothing to say of it
-abbrev pub NoMemoryPut : SlotHost → ℕ → ℤ → SlotHost → Type 0
-NoMemoryPut h c v k = Unit {0}
-
-abbrev pub NoMemoryTake : SlotHost → ℕ → SlotHost → Type 0
-NoMemoryTake h c k = Unit {0}

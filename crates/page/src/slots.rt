@@ -4,7 +4,8 @@ ghost use Rattle.std.specs.Prelude.{◌≡◌, ◌≤◌, length};
 pub mod calls;
 mod ends;
 
-// One channel: the first `len` values count, oldest first.
+// One channel: the first `len` values count, oldest first. An array with its length beside it, since the host is `Copy`
+// and allocates nothing, and its size in bytes is part of what is sold.
 #[derive(Clone, Copy)]
 pub struct Queue {
     values: [i32; 32],

@@ -1,21 +1,37 @@
 -- The first entry of a channel: where it stands, and what is left without it. Assumes nothing.
-use Rattle.std.proofs.Common.{◌≡◌, ℕ, suc, ◌+◌, ◌-◌, ◌<◌, ◌≤◌, true, false, cond, eqb, ltb, ◌⊎◌, List, [], ◌∷◌, ◌++◌, length, get_or, take, drop, ℤ, Ok, refl, ap, ◌∙◌, inl, inr, arith, length-append, length-drop, length-take}
+use Rattle.std.proofs.Common.{Some, None, sym, ◌≡◌, ℕ, suc, ◌+◌, ◌-◌, ◌<◌, ◌≤◌, true, false, cond, eqb, ltb, ◌⊎◌, List, [], ◌∷◌, ◌++◌, length, get_or, take, drop, ℤ, Ok, refl, ap, ◌∙◌, inl, inr, arith, length-append, length-drop, length-take}
 use lib.Seq.{paste}
 use Rattle.std.proofs.lemmas.Bool.Decides.{nat_tests, eqb_tells}
-use Rattle.std.proofs.lemmas.List.{take-take, take_at, at_drop_more}
+use Rattle.std.specs.List.{position, position_or_len}
+use Rattle.std.specs.Option.{unwrap_or}
+use Rattle.std.proofs.lemmas.List.{take-take, take_at}
+use Rattle.std.proofs.lemmas.List.Recursion.{is_position_or_len}
 use Rattle.std.proofs.lemmas.Slice.{between_is}
 use Rattle.host.specs.Channels.{oldest, rest}
 use Rattle.strip.specs.Entries.{listed, known, none, place, without, entries_taken}
 use Rattle.strip.specs.declared.entry.Entry.{Entry}
 use Rattle.strip.proofs.Counting.{by_bool, and_both}
 
--- a search that passes an entry of another channel
-pub place_more : (c : ℕ) (es : List Entry) (i : ℕ) → i < length es → eqb (get_or es i none).channel c ≡ false → place c (drop i es) ≡ suc (place c (drop (i + 1) es))
-place_more c es i h f = at_drop_more (place c) es i none h ∙ rw f
+-- the place of the first entry of a channel, as a search finds it
+place_is : (c : ℕ) (es : List Entry) → place c es ≡ position_or_len (λ e. eqb e.channel c) es
+place_is c = is_position_or_len (place c) (λ e. eqb e.channel c) refl (λ e es. let k : suc (place c es) ≡ 1 + place c es = omega arith in ap (cond (eqb e.channel c) 0) k)
 
--- a search that has found the channel
-pub place_here : (c : ℕ) (es : List Entry) (i : ℕ) → i < length es → eqb (get_or es i none).channel c ≡ true → place c (drop i es) ≡ 0
-place_here c es i h t = at_drop_more (place c) es i none h ∙ rw t
+place_most : (c : ℕ) (es : List Entry) → place c es ≤ length es
+place_most c [] = omega arith
+place_most c (e ∷ es) =
+    let h = place_most c es in
+    by_bool (λ b. cond b 0 (suc (place c es)) ≤ suc (length es)) (omega arith) (omega arith) (eqb e.channel c)
+
+least : (k n : ℕ) → k ≤ n → unwrap_or (cond (ltb k n) (Some k) None) n ≡ k
+least k n le = grind (arith, nat_tests)
+
+-- and where there is none it is the length
+pub found_at : (c : ℕ) (es : List Entry) → unwrap_or (position (λ e. eqb e.channel c) es) (length es) ≡ place c es
+found_at c es =
+    let k = position_or_len (λ e. eqb e.channel c) es in
+    let is = place_is c es in
+    let le : k ≤ length es = omega (arith, place_most c es) in
+    least k (length es) le ∙ sym is
 
 -- where a channel has a value, its oldest stands at the place
 pub oldest_at : (c : ℕ) (es : List Entry) → 0 < length (listed c es) → (oldest (listed c es) ≡ Ok (get_or es (place c es) none).value) × (place c es < length es)

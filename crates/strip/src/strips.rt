@@ -6,12 +6,11 @@ use crate::entry::Entry;
 
 pub mod build;
 pub mod calls;
-mod counts;
 mod ends;
-mod moves;
 
-// The first `len` entries are in use, in order of arrival; `counts` has how many of them are of each channel, so that
-// only a take has to look through them.
+// The first `len` entries are in use, in order of arrival: the memory is the maker's, of a size of its choice, so its
+// length in use stands beside it. `counts` has how many of them are of each channel, so that only a take has to look
+// through them.
 #[derive(Drop)]
 pub struct StripHost<'a> {
     entries: &'a mut [Entry],

@@ -1,9 +1,11 @@
 // The slot host as a host.
 ghost use Rattle.std.specs.Prelude.{◌≡◌, ℕ, []};
-ghost use Rattle.page.specs.Slots.{NoMemoryPut, NoMemoryTake, channels_of, empty_channels, slots_lawful};
+ghost use Rattle.host.specs.Queues.{NoMemoryPut, NoMemoryTake};
+ghost use Rattle.page.specs.Slots.{channels_of, empty_channels, slots_lawful};
 
 use crate::slots::{Queue, SlotHost};
 use host::calls::Host;
+use host::queues;
 use refusal::Refusal;
 
 impl SlotHost {
@@ -31,37 +33,18 @@ impl Host for SlotHost {
     }
 
     fn held(&self, channel: u8) -> Result<usize, Refusal> {
-        if channel >= 16 {
-            return Err(Refusal::Channel);
-        }
-        Ok(self.queues[channel as usize].len())
+        queues::held(&self.queues, channel)
     }
 
     fn space(&self, channel: u8) -> Result<usize, Refusal> {
-        if channel >= 16 {
-            return Err(Refusal::Channel);
-        }
-        Ok(self.queues[channel as usize].space())
+        queues::space(&self.queues, channel)
     }
 
     fn put(&mut self, channel: u8, value: i32) -> Result<(), Refusal> {
-        if channel >= 16 {
-            return Err(Refusal::Channel);
-        }
-        if self.queues[channel as usize].is_full() {
-            return Err(Refusal::Full);
-        }
-        self.queues[channel as usize].push(value);
-        Ok(())
+        queues::put(&mut self.queues, channel, value)
     }
 
     fn take(&mut self, channel: u8) -> Result<i32, Refusal> {
-        if channel >= 16 {
-            return Err(Refusal::Channel);
-        }
-        if self.queues[channel as usize].is_empty() {
-            return Err(Refusal::Empty);
-        }
-        Ok(self.queues[channel as usize].pop())
+        queues::take(&mut self.queues, channel)
     }
 }

@@ -20,24 +20,15 @@ impl Host for StripHost<'_> {
     }
 
     fn held(&self, channel: u8) -> Result<usize, Refusal> {
-        if !self.has(channel) {
-            return Err(Refusal::Channel);
-        }
-        Ok(self.held_on(channel))
+        self.held_on(channel)
     }
 
     fn space(&self, channel: u8) -> Result<usize, Refusal> {
-        if !self.has(channel) {
-            return Err(Refusal::Channel);
-        }
-        Ok(self.space_on(channel))
+        Ok(self.capacity - self.held_on(channel)?)
     }
 
     fn put(&mut self, channel: u8, value: i32) -> Result<(), Refusal> {
-        if !self.has(channel) {
-            return Err(Refusal::Channel);
-        }
-        if self.is_full(channel) {
+        if self.held_on(channel)? >= self.capacity {
             return Err(Refusal::Full);
         }
         self.push(channel, value);
@@ -45,10 +36,7 @@ impl Host for StripHost<'_> {
     }
 
     fn take(&mut self, channel: u8) -> Result<i32, Refusal> {
-        if !self.has(channel) {
-            return Err(Refusal::Channel);
-        }
-        if self.is_empty(channel) {
+        if self.held_on(channel)? == 0 {
             return Err(Refusal::Empty);
         }
         Ok(self.pop(channel))

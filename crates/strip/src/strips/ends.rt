@@ -1,50 +1,46 @@
 // One channel of the strip.
-ghost use Rattle.std.specs.Prelude.{◌≡◌, ◌-◌, ◌<◌, ◌≤◌, true, false, [], ◌∷◌, ◌++◌, length, Ok};
+ghost use Rattle.std.specs.Prelude.{◌≡◌, ◌<◌, ◌≤◌, [], ◌∷◌, ◌++◌, length, position, MatchResult, Ok, ◌==◌, slice_index_or};
 ghost use Rattle.host.specs.Channels.{oldest, rest, with_list};
-ghost use Rattle.strip.specs.Entries.{listed};
-ghost use Rattle.strip.specs.Stripped.{StripPuts, StripTakes, channels_of, in_use};
+ghost use Rattle.refusal.specs.declared.Refusal.TheVariants.{Channel};
+ghost use Rattle.strip.specs.Entries.{listed, none, place};
+ghost use Rattle.strip.specs.Stripped.{StripPuts, StripTakes, channels_of, in_use, lent};
 
+use crate::entry::Entry;
 use crate::strips::StripHost;
-use crate::strips::counts::{one_fewer, one_more};
-use crate::strips::moves::{remove, store};
+use refusal::Refusal;
 
 impl StripHost<'_> {
-    // The others ask for a channel that there is.
-    pub(crate) fn has(&self, channel: u8) -> bool
-        ensures inside { result ≡ true → channel < self.now.count }
-        ensures outside { result ≡ false → self.now.count ≤ channel }
+    // How many values the channel holds, if there is such a channel.
+    pub(crate) fn held_on(&self, channel: u8) -> Result<usize, Refusal>
+        ensures { MatchResult result (λ n. (channel < self.now.count) × (n ≡ length (listed channel (in_use self.now))) × (n ≤ self.now.capacity)) (λ e. (e ≡ Channel) × (self.now.count ≤ channel)) }
     {
-        channel < self.count
+        if channel >= self.count {
+            return Err(Refusal::Channel);
+        }
+        Ok(self.counts[channel as usize])
     }
 
-    pub(crate) fn held_on(&self, channel: u8) -> usize
-        requires { channel < self.now.count }
-        ensures { result ≡ length (listed channel (in_use self.now)) }
+    fn search(&self, channel: u8) -> Option<usize>
+        ensures { result ≡ position (λ e. e.channel == channel) (in_use self.now) }
     {
-        self.counts[channel as usize]
+        self.entries[..self.len]
+            .iter()
+            .position(|entry| entry.channel == channel)
     }
 
-    pub(crate) fn space_on(&self, channel: u8) -> usize
-        requires { channel < self.now.count }
-        ensures { result ≡ self.now.capacity - length (listed channel (in_use self.now)) }
+    // The place of the channel's first entry in use, or the number of those in use.
+    fn find(&self, channel: u8) -> usize
+        ensures first { result ≡ place channel (in_use self.now) }
+        ensures within { 0 < length (listed channel (in_use self.now)) → result < self.now.len }
     {
-        self.capacity - self.held_on(channel)
+        self.search(channel).unwrap_or(self.len)
     }
 
-    pub(crate) fn is_full(&self, channel: u8) -> bool
-        requires { channel < self.now.count }
-        ensures full { result ≡ true → self.now.capacity ≤ length (listed channel (in_use self.now)) }
-        ensures room { result ≡ false → length (listed channel (in_use self.now)) < self.now.capacity }
+    fn value_at(&self, at: usize) -> i32
+        requires { at < self.now.len }
+        ensures { result ≡ (slice_index_or (lent self.now) at none).value }
     {
-        self.held_on(channel) >= self.capacity
-    }
-
-    pub(crate) fn is_empty(&self, channel: u8) -> bool
-        requires { channel < self.now.count }
-        ensures none { result ≡ true → length (listed channel (in_use self.now)) ≡ 0 }
-        ensures some { result ≡ false → 0 < length (listed channel (in_use self.now)) }
-    {
-        self.held_on(channel) == 0
+        self.entries[at].value
     }
 
     // The value goes to the end of the channel.
@@ -53,33 +49,23 @@ impl StripHost<'_> {
         ensures after { channels_of self.new ≡ with_list (channels_of self.old) channel (listed channel (in_use self.old) ++ (value ∷ [])) }
         ensures memory { StripPuts self.old channel value self.new }
     {
-        let StripHost {
-            entries,
-            len,
-            counts,
-            ..
-        } = self;
-        store(entries, *len, channel, value);
-        *len += 1;
-        one_more(counts, channel);
+        self.entries[self.len] = Entry { channel, value };
+        self.len += 1;
+        self.counts[channel as usize] += 1;
     }
 
-    // The oldest value of the channel comes out.
+    // The oldest value of the channel comes out: the entries in use after it move forward by one, and the rest stay.
     pub(crate) fn pop(&mut self, channel: u8) -> i32
         requires { (channel < self.old.count) × (0 < length (listed channel (in_use self.old))) }
         ensures answer { oldest (listed channel (in_use self.old)) ≡ Ok result }
         ensures after { channels_of self.new ≡ with_list (channels_of self.old) channel (rest (listed channel (in_use self.old))) }
         ensures memory { StripTakes self.old channel self.new }
     {
-        let StripHost {
-            entries,
-            len,
-            counts,
-            ..
-        } = self;
-        let value = remove(entries, *len, channel);
-        *len -= 1;
-        one_fewer(counts, channel);
+        let at = self.find(channel);
+        let value = self.value_at(at);
+        self.entries.copy_within(at + 1..self.len, at);
+        self.len -= 1;
+        self.counts[channel as usize] -= 1;
         value
     }
 }

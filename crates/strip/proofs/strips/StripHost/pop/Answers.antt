@@ -1,8 +1,9 @@
--- One entry fewer in use keeps the counts right. Assumes nothing.
+-- The move is a take, and one entry fewer in use keeps the counts right. Assumes nothing.
 use Rattle.std.proofs.Common.{◌≡◌, ◌-◌, ◌<◌, length, get_or, take, Ok, sym, refl, ap, ◌∙◌, arith, to_z-of_z, w32}
-use Rattle.strip.specs.Entries.{known, without}
+use Rattle.std.proofs.lemmas.List.{get_or-take}
+use Rattle.strip.specs.Entries.{entries_taken, known, none, without}
 use Rattle.strip.specs.Stripped.{in_use, lent}
-use Rattle.strip.proofs.Removing.{held_taken, known_without, length_taken}
+use Rattle.strip.proofs.Removing.{held_taken, known_without, length_taken, moved, oldest_at}
 use Rattle.strip.proofs.Tied.{tied_taken, bounded_set, shrinks}
 use Rattle.strip.proofs.strips.StripHost.pop.Goals as goal
 
@@ -13,8 +14,10 @@ invariant_of-self c =
     let i : ch < length s.counts = omega arith in
     let held = s.bounded ch in
     let some = c.requires.1 in
-    let gone : take (s.len - 1) c.remove-value.new.entries ≡ without ch (in_use s) = ap (take (s.len - 1)) c.remove-value.ensures.after ∙ held_taken s.len ch (lent s) s.within some in
-    let size : length c.remove-value.new.entries ≡ length (lent s) = ap length c.remove-value.ensures.after ∙ length_taken s.len ch (lent s) s.within some in
+    let inside = c.find-at.ensures.within some in
+    let taken : c.copy_within.new.self ≡ entries_taken s.len ch (lent s) = c.copy_within.ensures.after ∙ moved s.len ch c.find-at.result (lent s) s.within c.find-at.ensures.first inside in
+    let gone : take (s.len - 1) c.copy_within.new.self ≡ without ch (in_use s) = ap (take (s.len - 1)) taken ∙ held_taken s.len ch (lent s) s.within some in
+    let size : length c.copy_within.new.self ≡ length (lent s) = ap length taken ∙ length_taken s.len ch (lent s) s.within some in
     record {
       few = s.few;
       slim = s.slim;
@@ -22,16 +25,28 @@ invariant_of-self c =
       enough = omega arith;
       within = omega arith;
       numbered = ap (known s.count) gone ∙ known_without s.count ch (in_use s) s.numbered;
-      tied = λ d. rw (gone, c.one_fewer.ensures) (tied_taken s.counts (in_use s) s.tied ch i d);
-      bounded = λ d. rw c.one_fewer.ensures (bounded_set s.counts ch (get_or s.counts ch 0 - 1) s.capacity i s.bounded (omega arith) d);
+      tied = λ d. rw gone (tied_taken s.counts (in_use s) s.tied ch i d);
+      bounded = bounded_set s.counts ch (get_or s.counts ch 0 - 1) s.capacity i s.bounded (omega arith);
     }
 
-pub returns : goal.returns
-returns c =
+pub returns-clause-answer : goal.returns-clause-answer
+returns-clause-answer c =
     let s = c.args.self.now in
-    let gone = c.remove-value.ensures.after in
-    record {
-      answer = c.remove-value.ensures.value ∙ ap Ok (sym (to_z-of_z {w = w32} (record { sfits = c.remove-value.type_inv })));
-      after = shrinks s c.args.channel _ c.requires.1 gone;
-      memory = (gone, refl, refl);
-    }
+    let ch = c.args.channel in
+    let inside = c.find-at.ensures.within c.requires.1 in
+    let here = ap (λ e. e.value) (get_or-take s.len (lent s) c.find-at.result none inside) in
+    (oldest_at ch (in_use s) c.requires.1).0
+    ∙ ap Ok (ap (λ i. (get_or (in_use s) i none).value) (sym c.find-at.ensures.first) ∙ here ∙ sym c.value_at-value.ensures ∙ sym (to_z-of_z {w = w32} (record { sfits = c.value_at-value.type_inv })))
+
+pub returns-clause-after : goal.returns-clause-after
+returns-clause-after c =
+    let s = c.args.self.now in
+    let ch = c.args.channel in
+    let inside = c.find-at.ensures.within c.requires.1 in
+    shrinks s ch _ c.requires.1 (c.copy_within.ensures.after ∙ moved s.len ch c.find-at.result (lent s) s.within c.find-at.ensures.first inside)
+
+pub returns-clause-memory : goal.returns-clause-memory
+returns-clause-memory c =
+    let s = c.args.self.now in
+    let inside = c.find-at.ensures.within c.requires.1 in
+    (c.copy_within.ensures.after ∙ moved s.len c.args.channel c.find-at.result (lent s) s.within c.find-at.ensures.first inside, refl, refl)

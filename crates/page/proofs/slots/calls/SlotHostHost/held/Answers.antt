@@ -1,14 +1,11 @@
--- The queue's length is the channel's. Assumes nothing.
-use Rattle.std.proofs.Common.{◌<◌, length, ap, ◌∙◌, arith}
-use Rattle.host.proofs.Shown.{held_is}
-use Rattle.page.specs.Slots.{slots}
-use Rattle.page.proofs.Slotted.{shows}
+-- The channels are a row of queues. Assumes nothing.
+use Rattle.std.proofs.Common.{◌≡◌, length, ap, ◌∙◌, arith}
+use Rattle.host.specs.Channels.{stored}
+use Rattle.page.proofs.Slotted.{in_a_row}
 use Rattle.page.proofs.slots.calls.SlotHostHost.held.Goals as goal
 
 pub returns : goal.returns
 returns c =
     let qs = c.args.self.now.queues in
-    let i = c.args.channel in
-    let inside : i < length qs = omega arith in
-    let here = shows qs i _ inside c.index-self-channel.is in
-    held_is (slots qs) i _ c.if-channel-ge16.false (c.len.ensures ∙ ap length here)
+    let n : length qs ≡ 16 = omega arith in
+    c.held.ensures 32 ∙ ap (λ b. stored b c.args.channel) (in_a_row qs n)

@@ -1,27 +1,18 @@
--- A put on a full channel, and on one with room. Assumes nothing.
-use Rattle.std.proofs.Common.{◌<◌, ◌≤◌, [], ◌∷◌, ◌++◌, length, sym, refl, ap, ◌∙◌, arith, to_z-of_z, w32, to_z, of_z}
-use Rattle.host.proofs.Shown.{put_fits, after_fits, put_full, after_full}
-use Rattle.page.specs.Slots.{slots}
-use Rattle.page.proofs.Slotted.{shows, changes}
+-- The channels are a row of queues. Assumes nothing.
+use Rattle.std.proofs.Common.{◌≡◌, length, sym, ap, ◌∙◌, arith, to_z-of_z}
+use Rattle.host.specs.Channels.{put_answer, after_put}
+use Rattle.page.proofs.Slotted.{in_a_row}
 use Rattle.page.proofs.slots.calls.SlotHostHost.put.Goals as goal
 
-pub returns-then-is_full : goal.returns-then-is_full
-returns-then-is_full c =
+pub returns-clause-answer : goal.returns-clause-answer
+returns-clause-answer c =
     let qs = c.args.self.now.queues in
-    let i = c.args.channel in
-    let inside : i < length qs = omega arith in
-    let here = ap length (shows qs i _ inside c.index-self-channel.is) in
-    let most = c.is_full.ensures.full c.if-is_full.true in
-    let full : 32 ≤ length ((slots qs).list i) = omega arith in
-    record { answer = sym (put_full (slots qs) i c.if-channel-ge16.false full); after = sym (after_full (slots qs) i _ c.if-channel-ge16.false full); memory = tt; refused = refl }
+    let n : length qs ≡ 16 = omega arith in
+    c.put.ensures.answer 32 ∙ ap (λ b. put_answer b c.args.channel) (in_a_row qs n)
 
-pub returns : goal.returns
-returns c =
+pub returns-clause-after : goal.returns-clause-after
+returns-clause-after c =
     let qs = c.args.self.now.queues in
-    let i = c.args.channel in
-    let inside : i < length qs = omega arith in
-    let here = ap length (shows qs i _ inside c.index-self-channel.is) in
-    let less = c.is_full.ensures.room c.if-is_full.false in
-    let room : length ((slots qs).list i) < 32 = omega arith in
-    let longer = c.push.ensures ∙ ap (λ l. l ++ (to_z w32 (of_z w32 c.args.value) ∷ [])) (shows qs i _ inside c.index-self-channel-2.is) ∙ ap (λ v. (slots qs).list i ++ (v ∷ [])) (to_z-of_z c.ranges.value) in
-    record { answer = sym (put_fits (slots qs) i c.if-channel-ge16.false room); after = changes qs i _ _ inside longer ∙ sym (after_fits (slots qs) i _ c.if-channel-ge16.false room); memory = tt; refused = tt }
+    let n : length qs ≡ 16 = omega arith in
+    let m : length c.put.new.queues ≡ 16 = omega arith in
+    sym (in_a_row c.put.new.queues m) ∙ rw (to_z-of_z c.ranges.value) at (c.put.ensures.after 32) ∙ ap (λ b. after_put b c.args.channel c.args.value) (in_a_row qs n)
