@@ -12,7 +12,6 @@ ghost use Rattle.engine.specs.Serves.{TurnMemory};
 ghost use Rattle.engine.specs.Views.{Acts, Fits, Port, Running, frame_of, state_of};
 
 use crate::visit::Visit;
-use copies::arithmetic::apply;
 use copies::rules::Source;
 use host::calls::Host;
 use meaning::answers::{Act, Moved};
@@ -90,8 +89,7 @@ impl<R: Regime, H: Host> Visit<R, H> {
         Some(Act::Wrote { channel, value })
     }
 
-    // One instruction of the copy at the level, or nothing if it cannot go on. A plain run has a like match, over its one copy.
-    // A function for both could ask nothing of its callers, so it would guard levels, registers and places by a match more.
+    // One instruction of the copy at the level, or nothing if it cannot go on.
     pub(crate) fn step(&mut self, level: u8) -> Option<Act>
         requires may { MayStep self.old.course level }
         requires fits { Fits R.Regime.order H.Host.channels self.old }
@@ -102,36 +100,14 @@ impl<R: Regime, H: Host> Visit<R, H> {
             return None;
         }
         match self.script.instructions[next as usize] {
-            Instruction::Skip => self.course.go_to(level, next + 1),
-            Instruction::Set { target, number } => self.course.store(level, target, number),
-            Instruction::Compute {
-                operation,
-                target,
-                first,
-                second,
-            } => {
-                let value = apply(
-                    operation,
-                    self.course.copies.register(level, first),
-                    self.course.copies.register(level, second),
-                );
-                self.course.store(level, target, value);
+            Instruction::Input { target, channel } => self.read(level, target, channel),
+            Instruction::Output { first, channel } => self.write(level, first, channel),
+            inner => {
+                self.course
+                    .compute(level, inner, self.script.instruction_count as u16);
+                Some(Act::Inner)
             }
-            Instruction::Jump { first, place } => {
-                let next = if self.course.copies.register(level, first) == 0 {
-                    next + 1
-                } else {
-                    place
-                };
-                self.course.go_to(level, next);
-            }
-            Instruction::Input { target, channel } => return self.read(level, target, channel),
-            Instruction::Output { first, channel } => return self.write(level, first, channel),
-            Instruction::Stop => self
-                .course
-                .go_to(level, self.script.instruction_count as u16),
         }
-        Some(Act::Inner)
     }
 
     // A turn in which that level was picked, or nobody.

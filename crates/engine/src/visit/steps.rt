@@ -1,5 +1,6 @@
 // What the turns of a visit change.
-ghost use Rattle.std.specs.Prelude.{◌≡◌, ℕ, suc, ◌<◌, [], length};
+ghost use Rattle.std.specs.Prelude.{◌≡◌, ℕ, suc, ◌<◌, true, [], length};
+ghost use Rattle.copies.specs.Computed.{computed, targets};
 ghost use Rattle.copies.specs.Held.{copies_of, steps_of, tapes_of};
 ghost use Rattle.meaning.specs.Copies.{assign, first, further, go_to};
 ghost use Rattle.meaning.specs.declared.answers.Act.TheVariants.{Inner, Took};
@@ -8,6 +9,7 @@ ghost use Rattle.engine.specs.Courses.{MayAssign, MayRead, MayStep, Went};
 use crate::visit::Course;
 use copies::table::Copies;
 use copies::tapes::Tapes;
+use script::parts::Instruction;
 
 impl Course {
     // Every copy and every tape as it begins.
@@ -41,6 +43,17 @@ impl Course {
         ensures { Went self.old self.new level Inner (go_to (copies_of self.old.copies level) next) }
     {
         self.copies.go_to(level, next);
+    }
+
+    // The copy does an instruction that neither takes a value in nor gives one out, in one step.
+    #[tactic(auto, using(crate::proofs::Allowed::steps_on, crate::proofs::Allowed::paced))]
+    pub(crate) fn compute(&mut self, level: u8, instruction: Instruction, end: u16)
+        requires may { MayStep self.old level }
+        requires sound { targets instruction ≡ true }
+        requires running { (copies_of self.old.copies level).next < 256 }
+        ensures { Went self.old self.new level Inner (computed (copies_of self.old.copies level) end instruction) }
+    {
+        self.copies.compute(level, instruction, end);
     }
 
     // The value goes to the copy's register, and the copy goes on, in one step.
