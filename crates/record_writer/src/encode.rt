@@ -1,110 +1,46 @@
 // Channels and instructions as records.
-ghost use Rattle.std.specs.Prelude.{◌≡◌, ℕ, ◌+◌, ◌≤◌, List, [], ◌∷◌, ◌++◌, length, if◌then◌else◌};
-ghost use Rattle.std.specs.Int.{w32};
+ghost use Rattle.std.specs.Prelude.{◌≡◌, ℕ, ◌+◌, ◌≤◌, ◌==◌, List, [], ◌∷◌, ◌++◌, if◌then◌else◌};
 ghost use Rattle.std.proofs.Common.{of_z};
+ghost use Rattle.arrayvec.specs.ArrayVec.{array_vec_len};
 ghost use Rattle.format.specs.Encoding.{encode_channel, encode_instruction, field_of, field_values, map_of};
-ghost use Rattle.record_writer.specs.Held.{held};
+ghost use Rattle.format.specs.Numbers.{number};
 
-use crate::buffer::RecordBytes;
+use arrayvec::ArrayVec;
 use script::parts::{Channel, Fields, Instruction};
 
-impl RecordBytes {
-    // Nothing yet.
-    fn empty() -> Self
-        ensures none { held result ≡ [] }
-        ensures len { result.len ≡ 0 }
-    {
-        RecordBytes {
-            bytes: [0; 12],
-            len: 0,
-        }
-    }
+// The bytes of one record. None is longer than 12: the map and all fields of an instruction.
+pub type RecordBytes = ArrayVec<u8, 12>;
 
-    // The record's bytes.
-    pub fn as_slice(&self) -> &[u8]
-        ensures { result.now ≡ held self.now }
-    {
-        &self.bytes[0..self.len]
-    }
-
-    // How many bytes the record has.
-    pub fn len(&self) -> usize
-        ensures is { result ≡ length (held self.now) }
-        ensures few { result ≤ 12 }
-    {
-        self.len
-    }
-
-    // More bytes at the end.
-    fn append(&mut self, more: &[u8])
-        requires { self.old.len + length more.now ≤ 12 }
-        ensures held { held self.new ≡ held self.old ++ more.now }
-        ensures len { self.new.len ≡ self.old.len + length more.now }
-    {
-        let end = self.len + more.len();
-        self.bytes[self.len..end].copy_from_slice(more);
-        self.len = end;
-    }
-}
-
-impl RecordBytes {
-    // A field of one byte: nothing where it is 0.
-    fn append_byte(&mut self, value: u8)
-        requires { self.old.len + 1 ≤ 12 }
-        ensures held { held self.new ≡ held self.old ++ field_of 1 value }
-        ensures len { self.new.len ≤ self.old.len + 1 }
-    {
-        if value != 0 {
-            self.append(&[value]);
-        }
-    }
-
-    // The number: four bytes, low byte first.
-    fn append_number(&mut self, value: i32)
-        requires { self.old.len + 4 ≤ 12 }
-        ensures held { held self.new ≡ held self.old ++ field_of 4 (of_z w32 value) }
-        ensures len { self.new.len ≤ self.old.len + 4 }
-    {
-        if value != 0 {
-            self.append(&value.to_le_bytes());
-        }
-    }
-
-    // The place: two bytes, low byte first.
-    fn append_place(&mut self, value: u16)
-        requires { self.old.len + 2 ≤ 12 }
-        ensures held { held self.new ≡ held self.old ++ field_of 2 value }
-        ensures len { self.new.len ≤ self.old.len + 2 }
-    {
-        if value != 0 {
-            self.append(&value.to_le_bytes());
-        }
-    }
-}
-
-// The map's bit for a field, as 0 or 1.
-fn bit(present: bool) -> u8
-    ensures { result ≡ (if present then 1 else 0) }
+// A field, low byte first: nothing where it is 0.
+fn append_field<const N: usize>(bytes: &mut RecordBytes, field: [u8; N])
+    requires { array_vec_len bytes.old + N ≤ 12 }
+    ensures items { bytes.new.items ≡ bytes.old.items ++ (if number field.entry == 0 then [] else field.entry) }
+    ensures len { array_vec_len bytes.new ≤ array_vec_len bytes.old + N }
 {
-    if present { 1 } else { 0 }
+    if field != [0; N] {
+        bytes.try_extend_from_slice(&field).unwrap();
+    }
 }
 
-// The map of a channel record.
+// The map of a channel record. Each field's bit stands beside the field's name, here and below: a loop over the fields
+// would need them as one array of slices, and a table of names beside it.
 fn channel_map(code: u8, level: u8) -> u8
     ensures { result ≡ map_of (code ∷ level ∷ []) }
 {
-    bit(code != 0) + 2 * bit(level != 0)
+    u8::from(code != 0) + 2 * u8::from(level != 0)
 }
 
 // The map of an instruction record.
 fn instruction_map(f: Fields) -> u8
     ensures { result ≡ map_of (field_values f) }
 {
-    let low = bit(f.kind != 0)
-        + 2 * bit(f.target != 0)
-        + 4 * bit(f.first != 0)
-        + 8 * bit(f.second != 0);
-    low + 16 * bit(f.number != 0) + 32 * bit(f.place != 0) + 64 * bit(f.channel != 0)
+    u8::from(f.kind != 0)
+        + 2 * u8::from(f.target != 0)
+        + 4 * u8::from(f.first != 0)
+        + 8 * u8::from(f.second != 0)
+        + 16 * u8::from(f.number != 0)
+        + 32 * u8::from(f.place != 0)
+        + 64 * u8::from(f.channel != 0)
 }
 
 // What a script file holds as a record.
@@ -113,7 +49,7 @@ pub trait FileRecord: Copy {
     ghost encoded: { Self → List ℕ };
 
     fn to_bytes(self) -> RecordBytes
-        ensures { held result ≡ encoded self };
+        ensures { result.items ≡ encoded self };
 }
 
 impl FileRecord for Channel {
@@ -121,11 +57,11 @@ impl FileRecord for Channel {
 
     fn to_bytes(self) -> RecordBytes {
         let code = self.direction.code();
-        let mut record = RecordBytes::empty();
-        record.append(&[channel_map(code, self.level)]);
-        record.append_byte(code);
-        record.append_byte(self.level);
-        record
+        let mut bytes = ArrayVec::new();
+        bytes.push(channel_map(code, self.level));
+        append_field(&mut bytes, [code]);
+        append_field(&mut bytes, [self.level]);
+        bytes
     }
 }
 
@@ -134,15 +70,15 @@ impl FileRecord for Instruction {
 
     fn to_bytes(self) -> RecordBytes {
         let f = self.fields();
-        let mut record = RecordBytes::empty();
-        record.append(&[instruction_map(f)]);
-        record.append_byte(f.kind);
-        record.append_byte(f.target);
-        record.append_byte(f.first);
-        record.append_byte(f.second);
-        record.append_number(f.number);
-        record.append_place(f.place);
-        record.append_byte(f.channel);
-        record
+        let mut bytes = ArrayVec::new();
+        bytes.push(instruction_map(f));
+        append_field(&mut bytes, [f.kind]);
+        append_field(&mut bytes, [f.target]);
+        append_field(&mut bytes, [f.first]);
+        append_field(&mut bytes, [f.second]);
+        append_field(&mut bytes, f.number.to_le_bytes());
+        append_field(&mut bytes, f.place.to_le_bytes());
+        append_field(&mut bytes, [f.channel]);
+        bytes
     }
 }

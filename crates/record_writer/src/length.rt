@@ -8,23 +8,12 @@ use crate::encode::FileRecord;
 use script::accepted::Script;
 
 // How many bytes records have one after another.
+#[tactic(auto, using(crate::proofs::Lengths::joined_length))]
 fn records_length<R: FileRecord>(records: &[R]) -> usize
     requires { length records.now ≤ 256 }
-    ensures few { result ≤ 12 * length records.now }
-    ensures is { result ≡ length (flat_map R.FileRecord.encoded records.now) }
+    ensures { result ≡ length (flat_map R.FileRecord.encoded records.now) }
 {
-    let mut total = 0;
-    for record in records {
-        total += record.to_bytes().len();
-    }
-    total
-}
-
-// How many records stand before `index`, of `count` in all.
-fn capped(index: usize, count: usize) -> usize
-    ensures { result ≡ min index count }
-{
-    index.min(count)
+    records.iter().map(|record| record.to_bytes().len()).sum()
 }
 
 // The number of the byte that channel record `index` begins at; past the last channel, the byte after all of them.
@@ -32,8 +21,8 @@ pub fn channel_start(script: &Script, index: usize) -> usize
     ensures few { result ≤ 194 }
     ensures is { result ≡ channel_start (model_of script.now) index }
 {
-    let count = capped(index, script.channel_count);
-    2 + records_length(&script.channels[0..count])
+    let count = index.min(script.channel_count);
+    2 + records_length(&script.channels[..count])
 }
 
 // The same of instruction records.
@@ -42,8 +31,8 @@ pub fn instruction_start(script: &Script, index: usize) -> usize
     ensures is { result ≡ instruction_start (model_of script.now) index }
     ensures whole { index ≡ script.now.instruction_count → result ≡ length (encode script.now) }
 {
-    let count = capped(index, script.instruction_count);
-    channel_start(script, script.channel_count) + 2 + records_length(&script.instructions[0..count])
+    let count = index.min(script.instruction_count);
+    channel_start(script, script.channel_count) + 2 + records_length(&script.instructions[..count])
 }
 
 // How many bytes the script's file has.

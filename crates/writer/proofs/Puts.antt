@@ -1,13 +1,10 @@
 -- What is written where. Assumes nothing.
-use Rattle.std.proofs.Common.{◌≡◌, ℕ, zero, suc, ◌+◌, ◌<◌, ◌≤◌, List, [], ◌∷◌, ◌++◌, length, get_or, take, drop, sym, ap, ◌∙◌, subst, append_assoc, add-zero, add_assoc, arith, length-append, length-drop}
+use Rattle.std.proofs.Common.{◌≡◌, ℕ, ◌+◌, ◌<◌, ◌≤◌, List, [], ◌++◌, length, get_or, take, drop, sym, ap, ◌∙◌, subst, append_assoc, add_assoc, arith, length-append, length-drop}
 use borrow.Rule.Slice.PartMut.{put_mid}
 use Rattle.std.specs.List.{flat_map}
-use Rattle.std.proofs.lemmas.List.{take-append-drop, drop-drop, take_at, drop_at, length-take-le, take_more, flat_map_more, take_all}
+use Rattle.std.proofs.lemmas.List.Folds.{length-flat_map-take}
+use Rattle.std.proofs.lemmas.List.{drop-drop, take_at, drop_at, length-take-le, take_more, flat_map_more, take_all}
 use Rattle.writer.specs.Written.{written}
-
--- nothing is written
-pub written_none : (p : ℕ) (old : List ℕ) → written p [] old ≡ old
-written_none p old = ap (λ n. take p old ++ drop n old) (add-zero p) ∙ take-append-drop p old
 
 -- what a copy into a slice leaves
 pub put_is : (p k : ℕ) (old ys zs : List ℕ) → ys ≡ zs → k ≡ length zs → put_mid p k old ys ≡ written p zs old
@@ -46,19 +43,11 @@ module _ {X : Type 0} (enc : X → List ℕ) (xs : List X) where
   joined_next : (i : ℕ) (d : X) → i < length xs → flat_map enc (take (i + 1) xs) ≡ flat_map enc (take i xs) ++ enc (get_or xs i d)
   joined_next i d h = ap (flat_map enc) (take_more xs i d h) ∙ sym (flat_map_more enc [] (take i xs) (get_or xs i d))
 
-  -- the first records are no longer than all
-  front_short : (i : ℕ) (ys : List X) → length (flat_map enc (take i ys)) ≤ length (flat_map enc ys)
-  front_short zero ys = omega arith
-  front_short (suc i) [] = omega arith
-  front_short (suc i) (y ∷ ys) = omega (arith, front_short i ys, length-append (enc y) (flat_map enc (take i ys)), length-append (enc y) (flat_map enc ys))
-
   -- there is room for record i
   pub room : (p at : ℕ) (old new : List ℕ) (i : ℕ) (x : X) → i < length xs → x ≡ get_or xs i x → p + length (flat_map enc xs) ≤ length old → Sofar p (flat_map enc (take i xs)) old at new → at + length (enc x) ≤ length new
   room p at old new i x lt e fits s =
-      let next = ap length (joined_next i x lt) in
-      let sum = length-append (flat_map enc (take i xs)) (enc (get_or xs i x)) in
       let item : length (enc x) ≡ length (enc (get_or xs i x)) = ap (λ y. length (enc y)) e in
-      let short = front_short (i + 1) xs in
+      let short = length-flat_map-take enc xs i x lt in
       let size : length new ≡ length old = ap length s.1 ∙ length_written p (flat_map enc (take i xs)) old (omega arith) in
       omega (arith, s.0)
 

@@ -1,5 +1,5 @@
 // Whole files into a buffer.
-ghost use Rattle.std.specs.Prelude.{◌≡◌, ◌+◌, ◌^◌, ◌<◌, ◌≤◌, length};
+ghost use Rattle.std.specs.Prelude.{◌≡◌, ◌+◌, ◌≤◌, length};
 ghost use Rattle.std.specs.List.{flat_map};
 ghost use Rattle.writer.specs.Written.{Writes, written};
 
@@ -8,26 +8,20 @@ pub use record_writer::length::encoded_length;
 use refusal::Refusal;
 use script::accepted::Script;
 
-// The place after `bytes` that are written from `at` on.
-fn place_after(at: usize, bytes: &[u8]) -> usize
-    requires { at + length bytes.now < 2 ^ 64 }
-    ensures { result ≡ at + length bytes.now }
-{
-    at + bytes.len()
-}
-
 // Writes the bytes from `at` on, and answers the place after them.
+#[tactic(auto, using(crate::proofs::Puts::put_is))]
 fn put(out: &mut [u8], at: usize, bytes: &[u8]) -> usize
     requires { at + length bytes.now ≤ length out.old }
     ensures end { result ≡ at + length bytes.now }
     ensures holds { out.new ≡ written at bytes.now out.old }
 {
-    let end = place_after(at, bytes);
+    let end = at + bytes.len();
     out[at..end].copy_from_slice(bytes);
     end
 }
 
 // Writes the records one after another from `at` on, and answers the place after them.
+#[tactic(auto, using(crate::proofs::Puts::room, crate::proofs::Puts::all_written))]
 fn put_records<R: FileRecord>(out: &mut [u8], at: usize, records: &[R]) -> usize
     requires { at + length (flat_map R.FileRecord.encoded records.now) ≤ length out.old }
     ensures end { result ≡ at + length (flat_map R.FileRecord.encoded records.now) }
@@ -35,8 +29,7 @@ fn put_records<R: FileRecord>(out: &mut [u8], at: usize, records: &[R]) -> usize
 {
     let mut end = at;
     for record in records {
-        let bytes = record.to_bytes();
-        end = put(out, end, bytes.as_slice());
+        end = put(out, end, record.to_bytes().as_slice());
     }
     end
 }
@@ -50,7 +43,7 @@ pub fn write_script(script: &Script, out: &mut [u8]) -> Result<usize, Refusal>
         return Err(Refusal::Buffer);
     }
     let at = put(out, 0, &[script.levels, script.channel_count as u8]);
-    let at = put_records(out, at, &script.channels[0..script.channel_count]);
+    let at = put_records(out, at, &script.channels[..script.channel_count]);
     let at = put(out, at, &(script.instruction_count as u16).to_le_bytes());
-    Ok(put_records(out, at, &script.instructions[0..script.instruction_count]))
+    Ok(put_records(out, at, &script.instructions[..script.instruction_count]))
 }

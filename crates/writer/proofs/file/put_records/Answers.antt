@@ -1,28 +1,13 @@
-use Rattle.std.proofs.Common.{ℕ, ◌+◌, ◌≤◌, List, length, sym, ap, ◌∙◌, arith}
+use Rattle.std.proofs.Common.{ℕ, ◌+◌, ◌≤◌, List, length, ap, ◌∙◌, arith}
 use Rattle.writer.specs.Written.{written}
-use Rattle.writer.proofs.Puts.{written_none, room, one_more, all_written}
+use Rattle.writer.proofs.Puts.{one_more}
 use Rattle.writer.proofs.file.put_records.Goals as goal
-
-pub loop-record-init : goal.loop-record-init
-loop-record-init g c = (omega arith, sym (written_none c.args.at c.args.out.now))
-
-pub put-end-requires : goal.put-end-requires
-put-end-requires g c =
-    let enc = g.R.FileRecord.encoded in
-    let bytes = c.as_slice.ensures ∙ c.to_bytes-bytes.ensures in
-    let fits = room enc c.args.records.now c.args.at c.loop-record.end c.args.out.now c.loop-record.out c.loop-record.record-index c.record-item.result c.loop-record-test.true c.record-item.is c.requires c.loop-record.invariant in
-    omega (arith, fits, ap length bytes)
 
 pub loop-record-preserved : goal.loop-record-preserved
 loop-record-preserved g c =
     let enc = g.R.FileRecord.encoded in
-    let bytes = c.as_slice.ensures ∙ c.to_bytes-bytes.ensures in
+    let bytes = c.as_slice.ensures.value ∙ c.to_bytes.ensures in
     let front : c.args.at ≤ length c.args.out.now = omega (arith, c.requires) in
     one_more enc c.args.records.now c.args.at c.args.out.now c.loop-record.end c.loop-record.out c.put-end.result c.put-end.new.out c.loop-record.record-index c.record-item.result front c.loop-record-test.true c.record-item.is c.loop-record.invariant
     (c.put-end.ensures.end ∙ ap (λ (l : List ℕ). c.loop-record.end + length l) bytes)
     (c.put-end.ensures.holds ∙ ap (λ (l : List ℕ). written c.loop-record.end l c.loop-record.out) bytes)
-
-pub returns : goal.returns
-returns g c =
-    let all = all_written g.R.FileRecord.encoded c.args.records.now c.args.at c.args.out.now c.loop-record.end c.loop-record.out c.loop-record.record-index c.loop-record-test.false c.loop-record.invariant in
-    record { end = all.0; holds = all.1 }

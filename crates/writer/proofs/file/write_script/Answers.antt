@@ -1,4 +1,4 @@
-use Rattle.std.proofs.Common.{◌≡◌, ◌-◌, ◌≤◌, [], ◌∷◌, ◌++◌, length, take, refl, ◌∙◌, subst, arith, rules}
+use Rattle.std.proofs.Common.{◌≡◌, ◌≤◌, [], ◌∷◌, ◌++◌, length, take, refl, ◌∙◌, subst, arith, rules}
 use Rattle.std.specs.List.{flat_map}
 use Rattle.format.specs.Numbers.{bytes_of}
 use Rattle.format.specs.Encoding.{encode, encode_channel, encode_instruction}
@@ -9,22 +9,22 @@ use Rattle.writer.proofs.file.write_script.Goals as goal
 pub put_records-at-requires : goal.put_records-at-requires
 put_records-at-requires c =
     let s = c.args.script.now in
-    let k = s.channel_count - 0 in
+    let k = s.channel_count in
     let size = sizes s k s.instruction_count (omega arith) refl in
     omega (arith, size, c.encoded_length.ensures, c.put-at.ensures.end)
 
 pub put-at-requires-2 : goal.put-at-requires-2
 put-at-requires-2 c =
     let s = c.args.script.now in
-    let k = s.channel_count - 0 in
+    let k = s.channel_count in
     let size = sizes s k s.instruction_count (omega arith) refl in
     omega (arith, size, c.encoded_length.ensures, c.put-at.ensures.end, c.put_records-at.ensures.end)
 
 pub put_records-requires : goal.put_records-requires
 put_records-requires c =
     let s = c.args.script.now in
-    let k = s.channel_count - 0 in
-    let j = s.instruction_count - 0 in
+    let k = s.channel_count in
+    let j = s.instruction_count in
     let size = sizes s k j (omega arith) (omega arith) in
     omega (arith, size, c.encoded_length.ensures, c.put-at.ensures.end, c.put_records-at.ensures.end, c.put-at-2.ensures.end)
 
@@ -32,8 +32,8 @@ pub returns : goal.returns
 returns c =
     let s = c.args.script.now in
     let old = c.args.out.now in
-    let k = s.channel_count - 0 in
-    let j = s.instruction_count - 0 in
+    let k = s.channel_count in
+    let j = s.instruction_count in
     let channels = flat_map encode_channel (take k s.channels) in
     let instructions = flat_map encode_instruction (take j s.instructions) in
     let head = s.levels ∷ s.channel_count ∷ [] in
