@@ -53,6 +53,7 @@ pub fn check_used(site: Site, field: Field, used: bool) -> Result<(), Fault>
 }
 
 // Is bit `k` of the map one?
+#[tactic(auto, using(crate::proofs::Bits::bit_left))]
 pub fn has_bit(map: u8, k: u32) -> bool
     ensures { result ≡ bit k map }
 {

@@ -1,16 +1,14 @@
 // Whole files.
 ghost use Rattle.std.specs.Prelude.{◌≡◌, ◌-◌, ◌≤◌, length, IfOk};
 ghost use Rattle.refusal.specs.declared.Refusal.TheVariants.{Short};
-ghost use Rattle.script.specs.Laws.{Blank, Counted, blank};
-ghost use Rattle.script.specs.declared.parts.Instruction.TheVariants.{Skip};
-ghost use Rattle.format.specs.Reading.{read_channels, read_count, read_file, read_head, read_instructions, site_at};
+ghost use Rattle.script.specs.Laws.{Counted};
+ghost use Rattle.format.specs.Reading.{read_count, read_file, read_head, site_at};
 ghost use Rattle.format.specs.Refusals.{Reads, ReadsBack};
 ghost use Rattle.format.specs.Rules.{fault};
-ghost use Rattle.reader.specs.Filled.{Fills};
 ghost use Rattle.reader.specs.Left.{Gives};
 ghost use Rattle.reader.specs.Parsed.{Parses};
 
-use crate::table::{Channels, Instructions, read_records};
+use crate::table::{ChannelReader, InstructionReader, read_records};
 use crate::unread::Unread;
 use format::layout::Site;
 use refusal::{Fault, Part, Refusal};
@@ -23,6 +21,18 @@ impl<'a> Unread<'a> {
         ensures { result ≡ self.entry.end - length self.entry.bytes.now }
     {
         self.end - self.bytes.len()
+    }
+
+    // The same file, with no more left than those bytes at its end.
+    pub(crate) fn up_to(self, bytes: &'a [u8]) -> Self
+        requires { length bytes.now ≤ length self.bytes.now }
+        ensures end { result.end ≡ self.entry.end }
+        ensures bytes { result.bytes.now ≡ bytes.now }
+    {
+        Unread {
+            end: self.end,
+            bytes,
+        }
     }
 
     // The site of the record that comes next.
@@ -69,13 +79,7 @@ impl<'a> Unread<'a> {
         if !(low..=high).contains(b) {
             return Err(self.wrong(Refusal::Head, Part::Head));
         }
-        Ok((
-            *b,
-            Unread {
-                end: self.end,
-                bytes,
-            },
-        ))
+        Ok((*b, self.up_to(bytes)))
     }
 
     // m, in two bytes.
@@ -90,13 +94,7 @@ impl<'a> Unread<'a> {
         if !(1..=256).contains(&m) {
             return Err(self.wrong(Refusal::Head, Part::Count));
         }
-        Ok((
-            m,
-            Unread {
-                end: self.end,
-                bytes,
-            },
-        ))
+        Ok((m, self.up_to(bytes)))
     }
 }
 
@@ -115,11 +113,11 @@ fn parse(bytes: &[u8]) -> Result<Script, Fault>
         direction: Direction::In,
         level: 0,
     }; 16];
-    let reader = Channels { levels };
+    let reader = ChannelReader { levels };
     let unread = read_records(&reader, &mut channels[..channel_count], unread)?;
     let (instruction_count, unread) = unread.read_count()?;
     let mut instructions = [Instruction::Skip; 256];
-    let reader = Instructions {
+    let reader = InstructionReader {
         channels: &channels[..channel_count],
         count: instruction_count as u16,
     };

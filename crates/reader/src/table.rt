@@ -22,29 +22,28 @@ pub(crate) trait ReadRecord<T> {
 
 // Reads channels, in a script of so many levels.
 #[derive(Clone, Copy)]
-pub(crate) struct Channels {
+pub(crate) struct ChannelReader {
     pub levels: u8,
 }
 
-impl ReadRecord<Channel> for Channels {
+impl ReadRecord<Channel> for ChannelReader {
     ghost one = { λ s end i bs. read_channel end i s.levels bs };
 
     fn read<'a>(&self, index: usize, unread: Unread<'a>) -> Result<(Channel, Unread<'a>), Fault> {
         let site = unread.site(Part::Channel(index));
         let (channel, bytes) = read_channel(site, self.levels, unread.bytes)?;
-        let end = unread.end;
-        Ok((channel, Unread { end, bytes }))
+        Ok((channel, unread.up_to(bytes)))
     }
 }
 
 // Reads instructions, in a script with these channels and so many instructions.
 #[derive(Clone, Copy)]
-pub(crate) struct Instructions<'c> {
+pub(crate) struct InstructionReader<'c> {
     pub channels: &'c [Channel],
     pub count: u16,
 }
 
-impl<'c> ReadRecord<Instruction> for Instructions<'c> {
+impl<'c> ReadRecord<Instruction> for InstructionReader<'c> {
     ghost one = { λ s end i bs. read_instruction end i s.channels.now s.count bs };
 
     fn read<'a>(
@@ -54,12 +53,12 @@ impl<'c> ReadRecord<Instruction> for Instructions<'c> {
     ) -> Result<(Instruction, Unread<'a>), Fault> {
         let site = unread.site(Part::Instruction(index));
         let (instruction, bytes) = read_instruction(site, self.channels, self.count, unread.bytes)?;
-        let end = unread.end;
-        Ok((instruction, Unread { end, bytes }))
+        Ok((instruction, unread.up_to(bytes)))
     }
 }
 
 // Reads a record into each slot of the table, one after another; what is left then.
+#[tactic(auto, using(crate::proofs::Many::more))]
 pub(crate) fn read_records<'a, T: Copy, R: ReadRecord<T>>(
     reader: &R,
     table: &mut [T],
