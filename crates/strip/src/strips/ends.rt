@@ -36,6 +36,7 @@ impl StripHost<'_> {
         self.search(channel).unwrap_or(self.len)
     }
 
+    // A function of its own, since its result's type says that the value fits.
     fn value_at(&self, at: usize) -> i32
         requires { at < self.now.len }
         ensures { result ≡ (slice_index_or (lent self.now) at none).value }
@@ -49,7 +50,8 @@ impl StripHost<'_> {
         ensures after { channels_of self.new ≡ with_list (channels_of self.old) channel (listed channel (in_use self.old) ++ (value ∷ [])) }
         ensures memory { StripPuts self.old channel value self.new }
     {
-        self.entries[self.len] = Entry { channel, value };
+        let at = self.len;
+        self.entries[at] = Entry { channel, value };
         self.len += 1;
         self.counts[channel as usize] += 1;
     }

@@ -9,8 +9,8 @@ use Rattle.strip.proofs.Counting.{known_push}
 use Rattle.strip.proofs.Tied.{tied_put, bounded_set, room_left, grows}
 use Rattle.strip.proofs.strips.StripHost.push.Goals as goal
 
-pub bounds-self-self : goal.bounds-self-self
-bounds-self-self c = room_left c.args.self.now c.args.channel c.requires.0 c.requires.1
+pub bounds-self-at : goal.bounds-self-at
+bounds-self-at c = room_left c.args.self.now c.args.channel c.requires.0 c.requires.1
 
 pub invariant_of-self : goal.invariant_of-self
 invariant_of-self c =
