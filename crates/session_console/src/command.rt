@@ -47,9 +47,7 @@ impl Command {
             }
             word => {
                 let kind = HostKind::of(word).ok_or(LineError::AnyHost)?;
-                Ok(Command::Plain(command::Command::of_kind(
-                    kind, heap, words,
-                )?))
+                Ok(Command::Plain(command::Command::of_kind(kind, heap, words)?))
             }
         }
     }

@@ -75,8 +75,9 @@ fn measure<R: Regime + Copy, H: Host + Drop>(
     regime: R,
     host: H,
 ) -> anyhow::Result<H> {
-    let load = Load::of(row.kind, row.levels, row.turns)
-        .map_err(|_| anyhow!("a load's script is not accepted"))?;
+    let load = Load::of(row.kind, row.levels, row.turns).map_err(|_| anyhow!(
+        "a load's script is not accepted"
+    ))?;
     let start = Instant::now(rt)?;
     let (tally, host) = run(&load, regime, host);
     let nanos = start.elapsed(rt)?.as_nanos();
