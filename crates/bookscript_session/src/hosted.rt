@@ -41,20 +41,14 @@ impl fmt::Display for Entries<'_> {
 
 // What can be shown of a host besides its channels: only a strip has entries.
 pub trait TellsEntries {
-    fn tell_entries(&self, rt: &HostRuntime) -> io::Result<()>;
-}
-
-impl TellsEntries for SlotHost {
     fn tell_entries(&self, rt: &HostRuntime) -> io::Result<()> {
         println!(rt; "unmade")
     }
 }
 
-impl TellsEntries for HeapHost {
-    fn tell_entries(&self, rt: &HostRuntime) -> io::Result<()> {
-        println!(rt; "unmade")
-    }
-}
+impl TellsEntries for SlotHost {}
+
+impl TellsEntries for HeapHost {}
 
 impl TellsEntries for StripHost<'_> {
     fn tell_entries(&self, rt: &HostRuntime) -> io::Result<()> {
