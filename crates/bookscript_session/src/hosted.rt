@@ -59,6 +59,7 @@ impl TellsEntries for StripHost<'_> {
 // Entries that no host has used: of a channel that there is not, and each with a value of its own.
 fn unused_entries(rt: &HostRuntime, count: usize) -> Result<Vec<Entry>, LineError> {
     let mut entries = Vec::new(rt.alloc());
+    // Counted beside the loop: it wraps, where a number of entries may be too large for a value.
     let mut value = 0i32;
     for _ in 0..count {
         value = value.wrapping_sub(1);

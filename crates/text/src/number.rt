@@ -27,6 +27,7 @@ fn parse_in(base: usize, text: &[u8]) -> Option<usize>
         return None;
     }
     let mut number = 0;
+    // Not `try_fold`: what it promises of a run that breaks off would need more lemmas than this loop's invariant.
     for c in text {
         number = push_digit(base, number, *c)?;
     }
