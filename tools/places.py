@@ -51,7 +51,7 @@ def fields(pattern):
                     found.append(f"{path}:{number}: {code.strip()[:110]}")
             elif re.match(r"\}", code):
                 inside = False
-            elif inside and not re.match(r"\s*ghost\b", code) and re.search(pattern, code):
+            elif inside and not re.match(r"\s*(ghost\b|#)", code) and re.search(pattern, code):
                 found.append(f"{path}:{number}: {code.strip()[:110]}")
     return found
 
