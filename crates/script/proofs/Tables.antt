@@ -19,7 +19,3 @@ module _ {X : Type 0} (d : X) where
   -- a table that holds d everywhere
   pub blank_all : (n : ℕ) → Blank d 0 (replicate n d)
   blank_all n k _ = ⊎_elim (λ lt. get_or-replicate n k d d lt) (λ le. get_or_past (replicate n d) k d (subst (λ m. m ≤ k) (sym (length-replicate n d)) le)) (cases_lt k n)
-
-  -- one more slot is used
-  pub blank_more : (i : ℕ) (xs : List X) (x : X) → Blank d i xs → Blank d (i + 1) (set xs i x)
-  blank_more i xs x b k le = let ne : k ≢ i = omega arith in get_or-set_other xs i k x d ne ∙ b k (omega arith)

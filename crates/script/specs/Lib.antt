@@ -1,5 +1,6 @@
 pub mod Flaws
 pub mod Equality
+pub mod Fields
 pub mod Kinds
 pub mod Laws
 pub mod Model

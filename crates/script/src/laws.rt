@@ -1,5 +1,6 @@
 // What holds of every script.
 ghost use Rattle.script.specs.Equality.{TellsApart};
+ghost use Rattle.script.specs.Fields.{KnownByFields};
 ghost use Rattle.script.specs.Model.{EveryScriptAccepted, SameScript};
 
 use crate::accepted::Script;
@@ -13,6 +14,12 @@ pub fn every_script_is_accepted()
 // Two scripts that hold the same are one value.
 pub fn same_script_is_one_value()
     ensures { SameScript }
+{}
+
+// An instruction is known by its fields: there is one way back from them.
+#[tactic(auto, using(crate::specs::Fields::instruction_back))]
+pub fn fields_tell_an_instruction()
+    ensures { KnownByFields }
 {}
 
 // Two channels are equal exactly where they are one value.
