@@ -1,4 +1,4 @@
-// Where a program chooses its host when it runs.
+// Where a program chooses its host when it runs: an enum and a match in each call, since nothing hands out a `dyn`.
 use page::slots::SlotHost;
 
 pub mod calls;

@@ -34,18 +34,6 @@ struct Tally {
     sum: u32,
 }
 
-// The channel and the value of an act, if it has them.
-fn carried(act: Act) -> Option<(u8, i32)> {
-    match act {
-        Act::Inner => None,
-        Act::Took { channel, value }
-        | Act::Reused { channel, value }
-        | Act::Defaulted { channel, value }
-        | Act::Wrote { channel, value }
-        | Act::Withheld { channel, value } => Some((channel, value)),
-    }
-}
-
 impl Tally {
     fn add(&mut self, number: u32) {
         self.sum = self
@@ -57,7 +45,7 @@ impl Tally {
 
     fn add_act(&mut self, act: Act) {
         self.add(u32::from(act.number()));
-        if let Some((channel, value)) = carried(act) {
+        if let Some((channel, value)) = act.carried() {
             self.add(u32::from(channel));
             self.add(value.cast_unsigned());
         }

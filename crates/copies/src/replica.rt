@@ -3,7 +3,7 @@ ghost use Rattle.std.specs.Prelude.{◌≡◌, length};
 
 pub mod steps;
 
-// The place of the next instruction, the registers, and a position in the tape of each channel.
+// The place of the next instruction, the registers, and a position in the tape of each channel: as many as the subject has.
 #[derive(Clone, Copy)]
 pub struct Replica {
     next: u16,

@@ -34,7 +34,8 @@ pub trait ChannelQueue {
         ensures refused { IfRefused result (self.new ≡ self.old) };
 }
 
-// Where the channel's queue stands.
+// Where the channel's queue stands. Put and take index it then, since of a slice that `get_mut` lent no more is known than
+// its length.
 fn place<Q>(queues: &[Q], channel: u8) -> Result<usize, Refusal>
     ensures { MatchResult result (λ i. (i ≡ channel) × (channel < length queues.now)) (λ e. (e ≡ Channel) × (length queues.now ≤ channel)) }
 {

@@ -6,8 +6,8 @@ pub mod order_map;
 
 pub use any_host::hosts;
 pub use class::{
-    Act, Did, Fault, Host, Moved, Part, PlainRun, ReadySet, Record, Refusal, Regime, Script, Standing,
-    Status, Visit, compartments, ladder, parts, read_script, slots, split_record,
+    Act, Did, Fault, Host, Moved, Part, PlainRun, ReadySet, Record, Refusal, Regime, Script,
+    Standing, Status, Visit, compartments, ladder, parts, read_script, slots, split_record,
     write_script,
 };
 pub use strip::entry::Entry;

@@ -1,5 +1,5 @@
 -- The numbers of acts and statuses, and what they carry. Assumes nothing.
-use Rattle.std.specs.Prelude.{ℕ, List, [], ◌∷◌, ℤ, pos}
+use Rattle.std.specs.Prelude.{ℕ, List, [], ◌∷◌, ℤ, pos, Some, None, Option}
 use Rattle.meaning.specs.declared.answers.Act.{Act}
 use Rattle.meaning.specs.declared.answers.Act.TheVariants.{Inner, Took, Reused, Defaulted, Wrote, Withheld}
 use Rattle.meaning.specs.declared.answers.Status.{Status}
@@ -21,6 +21,15 @@ act_values (Reused k v) = pos k ∷ v ∷ []
 act_values (Defaulted k v) = pos k ∷ v ∷ []
 act_values (Wrote k v) = pos k ∷ v ∷ []
 act_values (Withheld k v) = pos k ∷ v ∷ []
+
+-- the same, as a pair
+abbrev pub carried : Act → Option (ℕ × ℤ)
+carried Inner = None
+carried (Took k v) = Some (k, v)
+carried (Reused k v) = Some (k, v)
+carried (Defaulted k v) = Some (k, v)
+carried (Wrote k v) = Some (k, v)
+carried (Withheld k v) = Some (k, v)
 
 abbrev pub status_number : Status → ℕ
 status_number Ready = 0

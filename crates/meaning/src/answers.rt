@@ -1,6 +1,6 @@
 // What turns and questions answer.
 ghost use Rattle.std.specs.Prelude.{◌≡◌};
-ghost use Rattle.meaning.specs.Numbers.{act_number, status_number, channel_lacked};
+ghost use Rattle.meaning.specs.Numbers.{act_number, carried, status_number, channel_lacked};
 
 // What the picked copy did. A channel's tape is the values that copies have taken from it so far.
 #[derive(Clone, Copy, PartialEq, Eq, Debug)]
@@ -31,6 +31,20 @@ impl Act {
             Act::Defaulted { .. } => 3,
             Act::Wrote { .. } => 4,
             Act::Withheld { .. } => 5,
+        }
+    }
+
+    // The channel and the value of what it did with a channel.
+    pub fn carried(self) -> Option<(u8, i32)>
+        ensures { result ≡ carried self }
+    {
+        match self {
+            Act::Inner => None,
+            Act::Took { channel, value }
+            | Act::Reused { channel, value }
+            | Act::Defaulted { channel, value }
+            | Act::Wrote { channel, value }
+            | Act::Withheld { channel, value } => Some((channel, value)),
         }
     }
 }

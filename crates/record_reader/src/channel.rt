@@ -30,7 +30,8 @@ fn check_channel(site: Site, levels: u8, direction: Field, level: Field) -> Resu
     check_below(site, level, levels as u32)
 }
 
-// The channel record at the front of `bytes`, in a script with that many levels.
+// The channel record at the front of `bytes`, in a script with that many levels. Its two guards stand in reading an
+// instruction too: what a helper would promise of them is longer than they are.
 pub fn read_channel<'a>(
     site: Site,
     levels: u8,

@@ -27,7 +27,7 @@ pub enum Refusal {
 }
 
 impl Refusal {
-    // The number by which documents and programs call it.
+    // The number by which documents and programs call it: by a method, which says what the number is.
     pub fn number(self) -> u8
         ensures { result ≡ number_of self }
     {

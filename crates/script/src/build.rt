@@ -61,6 +61,7 @@ fn judge_head(levels: u8, channels: usize) -> Result<(), Flaw>
     )
 }
 
+// Channels and instructions each have a law and a part of their own, so the search for the first flaw stands twice.
 fn judge_channels(levels: u8, channels: &[Channel]) -> Result<(), Flaw>
     ensures { MatchResult result (λ _. Below levels channels.now (length channels.now)) (λ f. ((i : ℕ) × (f ≡ flaw why.Range (part.Channel i)) × FirstHigh levels channels.now i)) }
 {

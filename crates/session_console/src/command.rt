@@ -102,6 +102,7 @@ impl Command {
         if let Some(verb) = VisitVerb::of(name) {
             return Command::visit(verb, heap, words);
         }
+        // A test and no pattern: in a match's last arm the search does not see what the name is not.
         if is_name(name, "host") {
             Command::host(heap, words)
         } else {

@@ -1,5 +1,5 @@
 // What calls answered: counts, and a sum that tells runs apart.
-use meaning::answers::{Act, Moved};
+use meaning::answers::Moved;
 use refusal::Refusal;
 use std::fmt;
 
@@ -13,17 +13,6 @@ pub struct Tally {
     sum: i32,
 }
 
-fn value_of(act: Act) -> i32 {
-    match act {
-        Act::Inner => 0,
-        Act::Took { channel: _, value }
-        | Act::Reused { channel: _, value }
-        | Act::Defaulted { channel: _, value }
-        | Act::Wrote { channel: _, value }
-        | Act::Withheld { channel: _, value } => value,
-    }
-}
-
 impl Tally {
     // The order of what is mixed in counts.
     fn mix(&mut self, value: i32) {
@@ -35,7 +24,7 @@ impl Tally {
             Ok(Some(Moved { level, act })) => {
                 self.moved = self.moved.wrapping_add(1);
                 self.mix(i32::from(level) * 8 + i32::from(act.number()));
-                self.mix(value_of(act));
+                self.mix(act.carried().map_or(0, |(_, value)| value));
             }
             Ok(None) => self.nobody = self.nobody.wrapping_add(1),
             Err(_) => self.refused = self.refused.wrapping_add(1),

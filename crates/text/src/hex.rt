@@ -56,6 +56,7 @@ pub fn decode(heap: Global, text: &[u8]) -> Result<Vec<u8>, LineError>
 {
     let mut bytes = Vec::new(heap);
     let mut rest = text;
+    // By a pattern, which tells two digits, one that is left over, and none.
     while let [high, low, after @ ..] = rest {
         let Some(b) = byte(*high, *low) else {
             return Err(LineError::HexDigit);

@@ -54,7 +54,7 @@ pub fn tell_flows(
     }
 }
 
-// The levels whose bits are one; none of a number from 16 up.
+// The levels whose bits are one; none of a number from 16 up. Inserted one by one, since a set is in fixed memory.
 fn set_of(mask: usize) -> ReadySet {
     let mut ready = ReadySet::none();
     for level in 0..16u8 {

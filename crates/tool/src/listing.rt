@@ -70,6 +70,7 @@ impl fmt::Display for Step {
     }
 }
 
+// Channels and instructions are listed by two loops: one over any iterator would have to ask that it ends.
 fn list_channels(rt: &HostRuntime, script: &Script) -> io::Result<()> {
     for (i, channel) in script
         .channels

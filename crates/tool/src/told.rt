@@ -4,7 +4,8 @@ use script::accepted::Script;
 use script::parts::{Channel, Instruction};
 use std::fmt;
 
-// The part that a fault is in.
+// The part that a fault is in. A struct of one field, here and below: how a type of another crate is printed is said by one
+// of this crate.
 #[derive(Clone, Copy)]
 pub struct Named(pub Part);
 

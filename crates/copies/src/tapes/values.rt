@@ -77,6 +77,7 @@ impl Tapes {
         ensures kept { 16 ≤ channel → self.new ≡ self.old }
         ensures full { 64 ≤ length (tapes_of self.old channel) → self.new ≡ self.old }
     {
+        // By index: of an array that `get_mut` lent no more is known than its length.
         if channel < 16 {
             self.tapes[channel as usize].push(value);
         }

@@ -18,6 +18,7 @@ pub enum Unmade {
     Memory,
 }
 
+// By hand, since clauses name what `?` makes of want of memory.
 impl From<AllocError> for Unmade {
     ghost from_gives = { λ _ r. r ≡ Memory };
 
