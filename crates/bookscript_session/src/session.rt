@@ -59,50 +59,6 @@ fn is_setting_up(command: &Command) -> bool {
     )
 }
 
-// Lines while there is no host; the host that is asked for, unless there are no more.
-fn answer_unhosted<R: Read + Drop>(
-    rt: &HostRuntime,
-    lines: &mut Lines<R>,
-    made: &mut Made,
-) -> io::Result<Option<NewHost>> {
-    for _ in 0..ROUNDS {
-        let Some(command) = lines.next_command(rt)? else {
-            return Ok(None);
-        };
-        match host_asked(rt, &command) {
-            Ok(Some(host)) => return Ok(Some(host)),
-            Ok(None) => made.answer(rt, command)?,
-            Err(error) => println!(rt; "error {error}")?,
-        }
-    }
-    Ok(None)
-}
-
-// Lines to a host, until a visit is opened or another host is asked for.
-fn wait<R: Read + Drop, H: Host + TellsEntries>(
-    rt: &HostRuntime,
-    lines: &mut Lines<R>,
-    made: &mut Made,
-    host: &mut H,
-) -> io::Result<Waited> {
-    for _ in 0..ROUNDS {
-        let Some(command) = lines.next_command(rt)? else {
-            return Ok(Waited::Next(None));
-        };
-        if is_call(&command)
-            && let Some((script, levels)) = made.ready()
-        {
-            return Ok(Waited::Open(script, levels, command));
-        }
-        match host_asked(rt, &command) {
-            Ok(Some(host)) => return Ok(Waited::Next(Some(host))),
-            Ok(None) => made.answer_with(rt, host, command)?,
-            Err(error) => println!(rt; "error {error}")?,
-        }
-    }
-    Ok(Waited::Next(None))
-}
-
 // A line to an open visit.
 fn answer_visit<H: Host + TellsEntries>(
     rt: &HostRuntime,
@@ -123,26 +79,6 @@ fn answer_visit<H: Host + TellsEntries>(
     }
 }
 
-// Lines to a visit, until it is closed; is there more to come?
-fn answer_visits<R: Read + Drop, H: Host + TellsEntries>(
-    rt: &HostRuntime,
-    lines: &mut Lines<R>,
-    made: &mut Made,
-    visit: &mut Visit<AnyRegime, H>,
-) -> io::Result<bool> {
-    for _ in 0..ROUNDS {
-        let Some(command) = lines.next_command(rt)? else {
-            return Ok(false);
-        };
-        if let Command::Close = command {
-            println!(rt; "closed")?;
-            return Ok(true);
-        }
-        answer_visit(rt, made, visit, command)?;
-    }
-    Ok(false)
-}
-
 // The command that opened the visit is its first call, unless it only opened it.
 fn answer_first<H: Host + TellsEntries>(
     rt: &HostRuntime,
@@ -156,100 +92,151 @@ fn answer_first<H: Host + TellsEntries>(
     }
 }
 
-// A host and the visits that it is lent to, one after another.
-fn serve<R: Read + Drop, H: Host + TellsEntries + Drop>(
-    rt: &HostRuntime,
-    lines: &mut Lines<R>,
-    made: &mut Made,
-    host: H,
-) -> io::Result<Option<NewHost>> {
-    let mut host = host;
-    for _ in 0..ROUNDS {
-        match wait(rt, lines, made, &mut host)? {
-            Waited::Next(next) => return Ok(next),
-            Waited::Open(script, regime, command) => {
-                let mut visit = Visit::open(script, regime, host);
-                answer_first(rt, made, &mut visit, command)?;
-                let more = answer_visits(rt, lines, made, &mut visit)?;
-                let (_, _, back) = visit.end();
-                host = back;
-                if !more {
-                    return Ok(None);
+// The lines of one input, and what they made.
+#[derive(Drop)]
+struct Session<R> {
+    lines: Lines<R>,
+    made: Made,
+}
+
+impl<R: Read + Drop> Session<R> {
+    // Lines while there is no host; the host that is asked for, unless there are no more.
+    fn answer_unhosted(&mut self, rt: &HostRuntime) -> io::Result<Option<NewHost>> {
+        for _ in 0..ROUNDS {
+            let Some(command) = self.lines.next_command(rt)? else {
+                return Ok(None);
+            };
+            match host_asked(rt, &command) {
+                Ok(Some(host)) => return Ok(Some(host)),
+                Ok(None) => self.made.answer(rt, command)?,
+                Err(error) => println!(rt; "error {error}")?,
+            }
+        }
+        Ok(None)
+    }
+
+    // Lines to a host, until a visit is opened or another host is asked for.
+    fn wait<H: Host + TellsEntries>(
+        &mut self,
+        rt: &HostRuntime,
+        host: &mut H,
+    ) -> io::Result<Waited> {
+        for _ in 0..ROUNDS {
+            let Some(command) = self.lines.next_command(rt)? else {
+                return Ok(Waited::Next(None));
+            };
+            if is_call(&command)
+                && let Some((script, levels)) = self.made.ready()
+            {
+                return Ok(Waited::Open(script, levels, command));
+            }
+            match host_asked(rt, &command) {
+                Ok(Some(host)) => return Ok(Waited::Next(Some(host))),
+                Ok(None) => self.made.answer_with(rt, host, command)?,
+                Err(error) => println!(rt; "error {error}")?,
+            }
+        }
+        Ok(Waited::Next(None))
+    }
+
+    // Lines to a visit, until it is closed; is there more to come?
+    fn answer_visits<H: Host + TellsEntries>(
+        &mut self,
+        rt: &HostRuntime,
+        visit: &mut Visit<AnyRegime, H>,
+    ) -> io::Result<bool> {
+        for _ in 0..ROUNDS {
+            let Some(command) = self.lines.next_command(rt)? else {
+                return Ok(false);
+            };
+            if let Command::Close = command {
+                println!(rt; "closed")?;
+                return Ok(true);
+            }
+            answer_visit(rt, &mut self.made, visit, command)?;
+        }
+        Ok(false)
+    }
+
+    // A host and the visits that it is lent to, one after another.
+    fn serve<H: Host + TellsEntries + Drop>(
+        &mut self,
+        rt: &HostRuntime,
+        host: H,
+    ) -> io::Result<Option<NewHost>> {
+        let mut host = host;
+        for _ in 0..ROUNDS {
+            match self.wait(rt, &mut host)? {
+                Waited::Next(next) => return Ok(next),
+                Waited::Open(script, regime, command) => {
+                    let mut visit = Visit::open(script, regime, host);
+                    answer_first(rt, &mut self.made, &mut visit, command)?;
+                    let more = self.answer_visits(rt, &mut visit)?;
+                    let (_, _, back) = visit.end();
+                    host = back;
+                    if !more {
+                        return Ok(None);
+                    }
                 }
             }
         }
+        Ok(None)
     }
-    Ok(None)
-}
 
-fn serve_slot<R: Read + Drop>(
-    rt: &HostRuntime,
-    lines: &mut Lines<R>,
-    made: &mut Made,
-) -> io::Result<Option<NewHost>> {
-    println!(rt; "host 16 capacity 32")?;
-    serve(rt, lines, made, SlotHost::new())
-}
+    fn serve_slot(&mut self, rt: &HostRuntime) -> io::Result<Option<NewHost>> {
+        println!(rt; "host 16 capacity 32")?;
+        self.serve(rt, SlotHost::new())
+    }
 
-fn serve_own<R: Read + Drop>(
-    rt: &HostRuntime,
-    lines: &mut Lines<R>,
-    made: &mut Made,
-    host: HeapHost,
-    capacities: &[u16],
-) -> io::Result<Option<NewHost>> {
-    println!(rt; "host {} capacity {}", host.count(), Capacities(capacities))?;
-    serve(rt, lines, made, host)
-}
+    fn serve_own(
+        &mut self,
+        rt: &HostRuntime,
+        host: HeapHost,
+        capacities: &[u16],
+    ) -> io::Result<Option<NewHost>> {
+        println!(rt; "host {} capacity {}", host.count(), Capacities(capacities))?;
+        self.serve(rt, host)
+    }
 
-fn serve_strip<R: Read + Drop>(
-    rt: &HostRuntime,
-    lines: &mut Lines<R>,
-    made: &mut Made,
-    entries: &mut [Entry],
-    count: usize,
-) -> io::Result<Option<NewHost>> {
-    let host = StripHost::new(entries, count);
-    println!(rt; "host {} capacity {}", host.count(), host.capacity())?;
-    serve(rt, lines, made, host)
-}
+    fn serve_strip(
+        &mut self,
+        rt: &HostRuntime,
+        entries: &mut [Entry],
+        count: usize,
+    ) -> io::Result<Option<NewHost>> {
+        let host = StripHost::new(entries, count);
+        println!(rt; "host {} capacity {}", host.count(), host.capacity())?;
+        self.serve(rt, host)
+    }
 
-// The host that was asked for, until another is.
-fn round<R: Read + Drop>(
-    rt: &HostRuntime,
-    lines: &mut Lines<R>,
-    made: &mut Made,
-    host: NewHost,
-) -> io::Result<Option<NewHost>> {
-    match host {
-        NewHost::Slot => serve_slot(rt, lines, made),
-        NewHost::Own { host, capacities } => serve_own(
-            rt,
-            lines,
-            made,
-            host,
-            capacities.as_slice(),
-        ),
-        NewHost::Strip { count, entries } => {
-            let mut entries = entries;
-            serve_strip(rt, lines, made, entries.as_mut_slice(), count)
+    // The host that was asked for, until another is.
+    fn round(&mut self, rt: &HostRuntime, host: NewHost) -> io::Result<Option<NewHost>> {
+        match host {
+            NewHost::Slot => self.serve_slot(rt),
+            NewHost::Own { host, capacities } => self.serve_own(rt, host, capacities.as_slice()),
+            NewHost::Strip { count, entries } => {
+                let mut entries = entries;
+                self.serve_strip(rt, entries.as_mut_slice(), count)
+            }
         }
     }
 }
 
 // All lines of one input.
 pub fn answer_lines<R: Read + Drop>(rt: &HostRuntime, input: R) -> io::Result<()> {
-    let mut lines = Lines::new(rt, input)?;
-    let mut made = Made {
-        script: None,
-        levels: None,
+    let mut session = Session {
+        lines: Lines::new(rt, input)?,
+        made: Made {
+            script: None,
+            levels: None,
+        },
     };
-    let mut next = answer_unhosted(rt, &mut lines, &mut made)?;
+    let mut next = session.answer_unhosted(rt)?;
     for _ in 0..ROUNDS {
         let Some(host) = next else {
             return Ok(());
         };
-        next = round(rt, &mut lines, &mut made, host)?;
+        next = session.round(rt, host)?;
     }
     Ok(())
 }
