@@ -12,9 +12,7 @@ mod tests {
         let Ok(rows) = Words::new(b"000f 0ff0").rows(rt.alloc()) else {
             return assert!(rt; false, "rows");
         };
-        for (i, row) in [15, 4080, 0, 0].iter().enumerate() {
-            assert_eq!(rt; rows[i], *row);
-        }
+        assert_eq!(rt; rows, [15, 4080, 0, 0, 0, 0, 0, 0, 0, 0, 0, 0, 0, 0, 0, 0]);
     }
 
     #[test]
