@@ -1,24 +1,60 @@
 // Channels and instructions as records.
-ghost use Rattle.std.specs.Prelude.{◌≡◌, ℕ, ◌+◌, ◌≤◌, ◌==◌, List, [], ◌∷◌, ◌++◌, if◌then◌else◌};
+ghost use Rattle.std.specs.Prelude.{◌≡◌, ℕ, ◌+◌, ◌≤◌, ◌==◌, List, [], ◌∷◌, ◌++◌, length, if◌then◌else◌};
 ghost use Rattle.std.proofs.Common.{of_z};
-ghost use Rattle.arrayvec.specs.ArrayVec.{array_vec_len};
 ghost use Rattle.format.specs.Encoding.{encode_channel, encode_instruction, field_of, field_values, map_of};
 ghost use Rattle.format.specs.Numbers.{number};
+ghost use Rattle.record_writer.specs.Held.{held};
 
-use arrayvec::ArrayVec;
+use crate::buffer::RecordBytes;
 use script::parts::{Channel, Fields, Instruction};
 
-// The bytes of one record. None is longer than 12: the map and all fields of an instruction.
-pub type RecordBytes = ArrayVec<u8, 12>;
+impl RecordBytes {
+    // Nothing yet.
+    fn empty() -> Self
+        ensures none { held result ≡ [] }
+        ensures len { result.len ≡ 0 }
+    {
+        RecordBytes {
+            bytes: [0; 12],
+            len: 0,
+        }
+    }
 
-// A field, low byte first: nothing where it is 0.
-fn append_field<const N: usize>(bytes: &mut RecordBytes, field: [u8; N])
-    requires { array_vec_len bytes.old + N ≤ 12 }
-    ensures items { bytes.new.items ≡ bytes.old.items ++ (if number field.entry == 0 then [] else field.entry) }
-    ensures len { array_vec_len bytes.new ≤ array_vec_len bytes.old + N }
-{
-    if field != [0; N] {
-        bytes.try_extend_from_slice(&field).unwrap();
+    // The record's bytes.
+    pub fn as_slice(&self) -> &[u8]
+        ensures { result.now ≡ held self.now }
+    {
+        &self.bytes[..self.len]
+    }
+
+    // How many bytes the record has.
+    pub fn len(&self) -> usize
+        ensures is { result ≡ length (held self.now) }
+        ensures few { result ≤ 12 }
+    {
+        self.len
+    }
+
+    // More bytes at the end.
+    fn append(&mut self, more: &[u8])
+        requires { self.old.len + length more.now ≤ 12 }
+        ensures held { held self.new ≡ held self.old ++ more.now }
+        ensures len { self.new.len ≡ self.old.len + length more.now }
+    {
+        let end = self.len + more.len();
+        self.bytes[self.len..end].copy_from_slice(more);
+        self.len = end;
+    }
+
+    // A field, low byte first: nothing where it is 0.
+    fn append_field<const N: usize>(&mut self, field: [u8; N])
+        requires { self.old.len + N ≤ 12 }
+        ensures held { held self.new ≡ held self.old ++ (if number field.entry == 0 then [] else field.entry) }
+        ensures len { self.new.len ≤ self.old.len + N }
+    {
+        if field != [0; N] {
+            self.append(&field);
+        }
     }
 }
 
@@ -49,7 +85,7 @@ pub trait FileRecord: Copy {
     ghost encoded: { Self → List ℕ };
 
     fn to_bytes(self) -> RecordBytes
-        ensures { result.items ≡ encoded self };
+        ensures { held result ≡ encoded self };
 }
 
 impl FileRecord for Channel {
@@ -57,11 +93,11 @@ impl FileRecord for Channel {
 
     fn to_bytes(self) -> RecordBytes {
         let code = self.direction.code();
-        let mut bytes = ArrayVec::new();
-        bytes.push(channel_map(code, self.level));
-        append_field(&mut bytes, [code]);
-        append_field(&mut bytes, [self.level]);
-        bytes
+        let mut record = RecordBytes::empty();
+        record.append(&[channel_map(code, self.level)]);
+        record.append_field([code]);
+        record.append_field([self.level]);
+        record
     }
 }
 
@@ -70,15 +106,15 @@ impl FileRecord for Instruction {
 
     fn to_bytes(self) -> RecordBytes {
         let f = self.fields();
-        let mut bytes = ArrayVec::new();
-        bytes.push(instruction_map(f));
-        append_field(&mut bytes, [f.kind]);
-        append_field(&mut bytes, [f.target]);
-        append_field(&mut bytes, [f.first]);
-        append_field(&mut bytes, [f.second]);
-        append_field(&mut bytes, f.number.to_le_bytes());
-        append_field(&mut bytes, f.place.to_le_bytes());
-        append_field(&mut bytes, [f.channel]);
-        bytes
+        let mut record = RecordBytes::empty();
+        record.append(&[instruction_map(f)]);
+        record.append_field([f.kind]);
+        record.append_field([f.target]);
+        record.append_field([f.first]);
+        record.append_field([f.second]);
+        record.append_field(f.number.to_le_bytes());
+        record.append_field(f.place.to_le_bytes());
+        record.append_field([f.channel]);
+        record
     }
 }

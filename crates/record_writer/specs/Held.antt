@@ -1,0 +1,6 @@
+-- What a record's bytes are. Assumes nothing.
+use Rattle.std.specs.Prelude.{ℕ, List, take}
+use Rattle.record_writer.specs.declared.buffer.RecordBytes.{RecordBytes}
+
+abbrev pub held : RecordBytes → List ℕ
+held r = take r.len r.bytes

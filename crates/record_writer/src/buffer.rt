@@ -1,0 +1,12 @@
+// The bytes of one record.
+ghost use Rattle.std.specs.Prelude.{◌≡◌, ◌≤◌, length};
+
+// The first `len` bytes count. No record is longer than 12 bytes: the map and all fields of an instruction. An array with
+// its length, in fixed memory: the proof of what is written rests on no library's buffer.
+#[derive(Clone, Copy)]
+pub struct RecordBytes {
+    pub(crate) bytes: [u8; 12],
+    pub(crate) len: usize,
+    ghost few: { len ≤ 12 },
+    ghost size: { length bytes ≡ 12 },
+}
