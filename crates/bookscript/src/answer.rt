@@ -6,9 +6,11 @@ use house::hosts::AnyHost;
 use own_host::lanes::HeapHost;
 use page::slots::SlotHost;
 use std::io;
+use std::io::{BufRead, BufReader, Read};
 use tool::answer::{answer, answer_with};
 use tool::help::{CALLS, FILES, LAST, UNMADE, tell_lines};
 use tool::hosted::{Capacities, heap_host};
+use tool::inputs::AnswersLines;
 
 // What was made last, which other lines ask about.
 #[derive(Drop)]
@@ -55,11 +57,21 @@ impl Made {
     }
 
     // A line that cannot be understood is answered too, so that the others still are.
-    pub fn answer_line(&mut self, rt: &HostRuntime, line: &[u8]) -> io::Result<()> {
+    fn answer_line(&mut self, rt: &HostRuntime, line: &[u8]) -> io::Result<()> {
         match Command::parse(rt.alloc(), line) {
             Ok(Some(command)) => self.answer(rt, command),
             Ok(None) => Ok(()),
             Err(error) => println!(rt; "error {error}"),
         }
+    }
+}
+
+impl AnswersLines for Made {
+    // Lines are bytes: one that is not UTF-8 is a bad line like any other.
+    fn answer_lines<R: Read + Drop>(&mut self, rt: &HostRuntime, input: R) -> io::Result<()> {
+        for line in BufReader::new(rt.alloc(), input)?.split(rt.alloc(), b'\n') {
+            self.answer_line(rt, line?.as_slice())?;
+        }
+        Ok(())
     }
 }

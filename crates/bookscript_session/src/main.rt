@@ -7,21 +7,10 @@ mod made;
 mod session;
 mod visited;
 
-use session::answer_lines;
-use std::fs::File;
-use std::{env, io};
-
-fn run(rt: &HostRuntime) -> io::Result<()> {
-    let mut names = env::args(rt)?.skip(1).peekable();
-    if names.peek().is_none() {
-        return answer_lines(rt, rt.stdin());
-    }
-    for name in names {
-        answer_lines(rt, File::open(rt, name.as_str())?)?;
-    }
-    Ok(())
-}
+use session::Sessions;
+use std::io;
+use tool::inputs::answer_inputs;
 
 fn main(rt: HostRuntime) -> io::Result<()> {
-    run(&rt)
+    answer_inputs(&rt, &mut Sessions)
 }

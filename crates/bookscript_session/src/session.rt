@@ -16,8 +16,9 @@ use std::io::Read;
 use strip::entry::Entry;
 use strip::strips::StripHost;
 use tool::hosted::Capacities;
+use tool::inputs::AnswersLines;
 
-// No input has as many lines.
+// No input has as many lines. Rounds are counted and no iterator gives them, since each borrows the session anew.
 const ROUNDS: usize = usize::MAX;
 
 // What ends the lines to a host: another host is asked for, or there are no more lines; or a call of a visit, which
@@ -222,21 +223,26 @@ impl<R: Read + Drop> Session<R> {
     }
 }
 
-// All lines of one input.
-pub fn answer_lines<R: Read + Drop>(rt: &HostRuntime, input: R) -> io::Result<()> {
-    let mut session = Session {
-        lines: Lines::new(rt, input)?,
-        made: Made {
-            script: None,
-            levels: None,
-        },
-    };
-    let mut next = session.answer_unhosted(rt)?;
-    for _ in 0..ROUNDS {
-        let Some(host) = next else {
-            return Ok(());
+// A session for each input, and nothing that stays from one to the next.
+#[derive(Clone, Copy)]
+pub struct Sessions;
+
+impl AnswersLines for Sessions {
+    fn answer_lines<R: Read + Drop>(&mut self, rt: &HostRuntime, input: R) -> io::Result<()> {
+        let mut session = Session {
+            lines: Lines::new(rt, input)?,
+            made: Made {
+                script: None,
+                levels: None,
+            },
         };
-        next = session.round(rt, host)?;
+        let mut next = session.answer_unhosted(rt)?;
+        for _ in 0..ROUNDS {
+            let Some(host) = next else {
+                return Ok(());
+            };
+            next = session.round(rt, host)?;
+        }
+        Ok(())
     }
-    Ok(())
 }

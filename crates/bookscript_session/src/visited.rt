@@ -26,7 +26,7 @@ impl fmt::Display for Acted {
 }
 
 // What many turns answered: how many of each kind, and a checksum of all answers in order.
-#[derive(Clone, Copy)]
+#[derive(Clone, Copy, Default)]
 struct Tally {
     moved: usize,
     nobody: usize,
@@ -72,6 +72,13 @@ impl Tally {
     }
 }
 
+impl fmt::Display for Tally {
+    fn fmt<W: fmt::Write>(&self, f: &mut fmt::Formatter<W>) -> fmt::Result {
+        write!(f, "moved {} nobody {}", self.moved, self.nobody)?;
+        write!(f, " refused {} sum {}", self.refused, self.sum)
+    }
+}
+
 pub fn tell_feed<H: Host>(
     rt: &HostRuntime,
     visit: &mut Visit<AnyRegime, H>,
@@ -102,20 +109,11 @@ pub fn tell_turns<H: Host>(
     visit: &mut Visit<AnyRegime, H>,
     count: usize,
 ) -> io::Result<()> {
-    let mut tally = Tally {
-        moved: 0,
-        nobody: 0,
-        refused: 0,
-        sum: 0,
-    };
+    let mut tally = Tally::default();
     for _ in 0..count {
         tally.add_answer(visit.turn());
     }
-    let moved = tally.moved;
-    let nobody = tally.nobody;
-    let refused = tally.refused;
-    let sum = tally.sum;
-    println!(rt; "turns {count} moved {moved} nobody {nobody} refused {refused} sum {sum}")
+    println!(rt; "turns {count} {tally}")
 }
 
 pub fn tell_standing<H: Host>(

@@ -60,18 +60,26 @@ fn write_often(script: &Script, file: &mut [u8; BYTES], times: u32) -> i32 {
     sum
 }
 
+// Runs a loop of that name over that many files, and tells its sum and its time.
+fn timed<F: FnOnce(u32) -> i32>(
+    rt: &HostRuntime,
+    name: &str,
+    times: u32,
+    often: F,
+) -> anyhow::Result<()>
+    requires { F.IsAlwaysCallable often }
+{
+    let start = Instant::now(rt)?;
+    let sum = often(times);
+    let nanos = start.elapsed(rt)?.as_nanos();
+    println!(rt; "{name} {BYTES} bytes times {times} sum {sum}")?;
+    eprintln!(rt; "{name} file - 16 {times} {nanos}")?;
+    Ok(())
+}
+
 pub fn measure_files(rt: &HostRuntime, times: u32) -> anyhow::Result<()> {
     let script = largest().map_err(|_| anyhow!("the largest script is not accepted"))?;
     let mut file = [0; BYTES];
-    let start = Instant::now(rt)?;
-    let sum = write_often(&script, &mut file, times);
-    let nanos = start.elapsed(rt)?.as_nanos();
-    println!(rt; "write {BYTES} bytes times {times} sum {sum}")?;
-    eprintln!(rt; "write file - 16 {times} {nanos}")?;
-    let start = Instant::now(rt)?;
-    let sum = read_often(&mut file, times);
-    let nanos = start.elapsed(rt)?.as_nanos();
-    println!(rt; "read {BYTES} bytes times {times} sum {sum}")?;
-    eprintln!(rt; "read file - 16 {times} {nanos}")?;
-    Ok(())
+    timed(rt, "write", times, |times| write_often(&script, &mut file, times))?;
+    timed(rt, "read", times, |times| read_often(&mut file, times))
 }

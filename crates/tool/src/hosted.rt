@@ -25,9 +25,8 @@ impl fmt::Display for Capacities<'_> {
 pub fn heap_host(rt: &HostRuntime, capacities: &[u16]) -> Result<HeapHost, LineError> {
     let mut host = HeapHost::new(rt.alloc());
     for capacity in capacities {
-        if host.add(rt.alloc(), usize::from(*capacity), &[]).is_err() {
-            return Err(LineError::Memory);
-        }
+        host.add(rt.alloc(), usize::from(*capacity), &[])
+            .map_err(|_| LineError::Memory)?;
     }
     Ok(host)
 }

@@ -5,6 +5,7 @@ pub mod answer;
 pub mod files;
 pub mod help;
 pub mod hosted;
+pub mod inputs;
 pub mod levels;
 pub mod listing;
 pub mod tell;
