@@ -80,6 +80,11 @@ fn timed<F: FnOnce(u32) -> i32>(
 pub fn measure_files(rt: &HostRuntime, times: u32) -> anyhow::Result<()> {
     let script = largest().map_err(|_| anyhow!("the largest script is not accepted"))?;
     let mut file = [0; BYTES];
-    timed(rt, "write", times, |times| write_often(&script, &mut file, times))?;
+    timed(
+        rt,
+        "write",
+        times,
+        |times| write_often(&script, &mut file, times),
+    )?;
     timed(rt, "read", times, |times| read_often(&mut file, times))
 }
