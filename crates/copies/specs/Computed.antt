@@ -1,5 +1,5 @@
 -- What an instruction that neither takes a value in nor gives one out does to a copy. Assumes nothing.
-use Rattle.std.specs.Prelude.{ℕ, suc, Bool, true, cond, nat_lt}
+use Rattle.std.specs.Prelude.{ℕ, suc, Bool, true, ◌&&◌, cond, nat_lt}
 use Rattle.script.specs.declared.parts.Instruction.{Instruction}
 use Rattle.script.specs.declared.parts.Instruction.TheVariants.{Skip, Set, Compute, Jump, Input, Output, Stop}
 use Rattle.meaning.specs.Arithmetic.{is_zero, result_of}
@@ -24,3 +24,7 @@ targets (Jump a i) = true
 targets (Input t k) = true
 targets (Output a k) = true
 targets Stop = true
+
+-- and there is a place after the copy's own
+abbrev pub computes : Copy → Instruction → Bool
+computes c i = targets i && nat_lt c.next 65535

@@ -1,6 +1,8 @@
 -- What the tables of a visit hold. Assumes nothing.
 use Rattle.std.specs.Prelude.{◌≡◌, ℕ, suc, Bool, ◌&&◌, List, [], map, take, ℤ, pos, nat_lt, slice_index, slice_index_or}
+use Rattle.script.specs.declared.parts.Instruction.{Instruction}
 use Rattle.meaning.specs.Copies.{Copy, first, with_at}
+use Rattle.copies.specs.Computed.{computes}
 use Rattle.copies.specs.declared.replica.Replica.{Replica}
 use Rattle.copies.specs.declared.table.Copies.{Copies}
 use Rattle.copies.specs.declared.table.LevelCopy.{LevelCopy}
@@ -10,6 +12,10 @@ use Rattle.copies.specs.declared.tapes.Tapes.{Tapes}
 -- a copy, from its tables
 abbrev pub copy_of : Replica → Copy
 copy_of r = record { next = r.next; registers = λ i. slice_index_or r.registers i (pos 0); positions = λ k. slice_index r.positions k }
+
+-- there is a register i and a place after the copy's own, a channel k and a position after the copy's own
+abbrev pub reads : Copy → ℕ → ℕ → Bool
+reads c i k = (nat_lt i 16 && nat_lt c.next 65535) && (nat_lt k 16 && nat_lt (c.positions k) 255)
 
 -- the copy of a level, and its own steps
 abbrev pub copy_in : LevelCopy → Copy
@@ -42,6 +48,10 @@ can_assign c i = can_step c && (nat_lt i 16 && nat_lt (copy_in c).next 65535)
 abbrev pub can_read : LevelCopy → ℕ → ℕ → Bool
 can_read c i k = can_assign c i && (nat_lt k 16 && nat_lt ((copy_in c).positions k) 255)
 
+-- and it may do an instruction that neither takes a value in nor gives one out
+abbrev pub can_compute : LevelCopy → Instruction → Bool
+can_compute c i = can_step c && computes (copy_in c) i
+
 -- from t to u the copy at level l made one step and is now c, and no other copy changed
 pub record Stepped (t u : Copies) (l : ℕ) (c : Copy) : Type 0 where
   pub copies : copies_of u ≡ with_at (copies_of t) l c
@@ -58,6 +68,10 @@ may_assign t l i = may_step t l && (nat_lt i 16 && nat_lt (copies_of t l).next 6
 -- and there is a channel k, and a position after the copy's own
 abbrev pub may_read : Copies → ℕ → ℕ → ℕ → Bool
 may_read t l i k = may_assign t l i && (nat_lt k 16 && nat_lt ((copies_of t l).positions k) 255)
+
+-- and it may do an instruction that neither takes a value in nor gives one out
+abbrev pub may_compute : Copies → ℕ → Instruction → Bool
+may_compute t l i = may_step t l && computes (copies_of t l) i
 
 -- the values of a tape, and of the tape of each channel
 abbrev pub tape_of : Tape → List ℤ

@@ -1,12 +1,9 @@
 -- What a call of a visit answers and leaves. Assumes nothing.
-use Rattle.std.specs.Prelude.{◌≡◌, ℕ, Bool, cond, not, ℤ, Some, None, Ok, Err, Option, Result}
+use Rattle.std.specs.Prelude.{◌≡◌, ℕ, cond, ℤ, Some, None, Ok, Err, Option, Result}
 use Rattle.refusal.specs.declared.Refusal.{Refusal}
-use Rattle.refusal.specs.declared.Refusal.TheVariants.{Levels, Channels, Channel}
-use Rattle.refusal.specs.declared.Refusal.TheVariants as why
-use Rattle.script.specs.declared.parts.Direction.{Direction}
-use Rattle.script.specs.declared.parts.Direction.TheVariants.{In, Out}
+use Rattle.refusal.specs.declared.Refusal.TheVariants.{Levels, Channels}
 use Rattle.meaning.specs.Answers.{Call, Answer}
-use Rattle.meaning.specs.Visits.{Frame, State, respond, known, outward, same_levels, enough_channels, Plan, go, lacks_value, lacks_space, ended, acted}
+use Rattle.meaning.specs.Visits.{Frame, State, respond, same_levels, enough_channels, Plan, go, lacks_value, lacks_space, ended, acted}
 use Rattle.meaning.specs.declared.answers.Act.{Act}
 use Rattle.meaning.specs.declared.answers.Act.TheVariants.{Inner, Took, Reused, Defaulted, Wrote, Withheld}
 use Rattle.meaning.specs.declared.answers.Moved.{Moved}
@@ -21,14 +18,6 @@ pub record Served (f : Frame) (s : State) (x : Call) (g : Frame) (t : State) (a 
 -- whether script, regime and host fit
 abbrev pub fitting : Frame → Result (Unit {0}) Refusal
 fitting f = cond (same_levels f) (cond (enough_channels f) (Ok tt) (Err Channels)) (Err Levels)
-
--- whether channel k is one of the script's, and values go by it that way
-abbrev pub goes : Frame → ℕ → Direction → Bool
-goes f k In = not (outward f k)
-goes f k Out = outward f k
-
-abbrev pub judging : Frame → ℕ → Direction → Result (Unit {0}) Refusal
-judging f k d = cond (known f k) (cond (goes f k d) (Ok tt) (Err why.Direction)) (Err Channel)
 
 -- what a copy at level l does by its plan: the act, and the state that it leaves
 abbrev pub act_of : Plan → Option Act

@@ -120,9 +120,7 @@ pub fn read_field<'a, T: Number>(
         };
         return Ok((absent, rest));
     }
-    let Some((number, after)) = T::cut(rest) else {
-        return Err(site.fault(Refusal::Short, site.length));
-    };
+    let (number, after) = T::cut(rest).ok_or(site.fault(Refusal::Short, site.length))?;
     let field = Field {
         byte: site.length.saturating_sub(rest.len()),
         value: Some(number),

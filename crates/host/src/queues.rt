@@ -34,8 +34,8 @@ pub trait ChannelQueue {
         ensures refused { IfRefused result (self.new ≡ self.old) };
 }
 
-// Where the channel's queue stands. Put and take index it then, since of a slice that `get_mut` lent no more is known than
-// its length.
+// Where the channel's queue stands, for put and take: they index it then, since of a slice that `get_mut` lent no more is
+// known than its length.
 fn place<Q>(queues: &[Q], channel: u8) -> Result<usize, Refusal>
     ensures { MatchResult result (λ i. (i ≡ channel) × (channel < length queues.now)) (λ e. (e ≡ Channel) × (length queues.now ≤ channel)) }
 {
@@ -48,15 +48,15 @@ fn place<Q>(queues: &[Q], channel: u8) -> Result<usize, Refusal>
 pub fn held<Q: ChannelQueue>(queues: &[Q], channel: u8) -> Result<usize, Refusal>
     ensures { (k : ℕ) → result ≡ stored (queued Q.list Q.capacity k queues.now) channel }
 {
-    let at = place(queues, channel)?;
-    Ok(queues[at].len())
+    let queue = queues.get(channel as usize).ok_or(Refusal::Channel)?;
+    Ok(queue.len())
 }
 
 pub fn space<Q: ChannelQueue>(queues: &[Q], channel: u8) -> Result<usize, Refusal>
     ensures { (k : ℕ) → result ≡ lacking (queued Q.list Q.capacity k queues.now) channel }
 {
-    let at = place(queues, channel)?;
-    Ok(queues[at].space())
+    let queue = queues.get(channel as usize).ok_or(Refusal::Channel)?;
+    Ok(queue.space())
 }
 
 pub fn put<Q: ChannelQueue>(queues: &mut [Q], channel: u8, value: i32) -> Result<(), Refusal>

@@ -17,4 +17,5 @@ pub struct Queue {
 #[derive(Clone, Copy)]
 pub struct SlotHost {
     queues: [Queue; 16],
+    ghost all: { length queues ≡ 16 },
 }

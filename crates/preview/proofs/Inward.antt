@@ -1,11 +1,7 @@
 -- What is answered about a channel, by what the script says of it. Assumes nothing.
-use Rattle.std.proofs.Common.{◌≡◌, ℕ, ◌<◌, ◌≤◌, Bool, true, false, cond, nat_lt, List, length, take, get_or, ℤ, Ok, Err, Result, sym, refl, ap, ◌∙◌, arith}
-use Rattle.std.proofs.lemmas.Bool.{lt-ltb, le-ltb}
-use Rattle.std.proofs.lemmas.List.{get_or-take, get_or_default, length-take-le}
-use Rattle.script.specs.Laws.{blank, same}
-use Rattle.script.specs.declared.parts.Channel.{Channel as AChannel}
-use Rattle.script.specs.declared.parts.Direction.{Direction as ADirection}
-use Rattle.script.specs.declared.parts.Direction.TheVariants.{Out}
+use Rattle.std.proofs.Common.{◌≡◌, ℕ, Bool, true, false, cond, not, nat_lt, List, ℤ, Ok, Err, Result, refl}
+use Rattle.script.specs.Judging.{judging}
+use Rattle.script.specs.declared.parts.Direction.TheVariants.{In}
 use Rattle.refusal.specs.declared.Refusal.{Refusal}
 use Rattle.refusal.specs.declared.Refusal.TheVariants.{Channel, Direction}
 use mathlib.Core.Path.{fun_ext}
@@ -22,26 +18,15 @@ Judged = Result (Unit {0}) Refusal
 abbrev judged : Bool → Bool → Judged → Judged
 judged inside out r = cond inside (cond out (Err Direction) r) (Err Channel)
 
--- what was looked up among the channels that count
-module _ (sc : Program) (k : ℕ) (full : sc.channel_count ≤ length sc.channels) where
-  -- nothing: the script has no such channel
-  pub no_channel : length (take sc.channel_count sc.channels) ≤ k → Err Channel ≡ give_answer sc k
-  no_channel past =
-      let above : sc.channel_count ≤ k = simp length-take-le at past in
-      sym (ap (λ b. judged b (outward_at sc k) (Ok tt)) (le-ltb k sc.channel_count above))
+-- what the script answers of an in channel
+inward : (inside out : Bool) → cond inside (cond (not out) (Ok tt) (Err Direction)) (Err Channel) ≡ judged inside out (Ok tt)
+inward false out = refl
+inward true true = refl
+inward true false = refl
 
-  -- a channel
-  module _ (x : AChannel) (is : x ≡ get_or (take sc.channel_count sc.channels) k x) (inside : k < length (take sc.channel_count sc.channels)) where
-    below : k < sc.channel_count
-    below = simp length-take-le at inside
-
-    found : x ≡ get_or sc.channels k blank
-    found = is ∙ get_or-take sc.channel_count sc.channels k x below ∙ get_or_default sc.channels k x blank (omega (arith, below))
-
-    pub some_channel : (d : ADirection) → x.direction ≡ d → judged true (same Out d) (Ok tt) ≡ give_answer sc k
-    some_channel d e =
-        ap (λ (y : ADirection). judged true (same Out y) (Ok tt)) (sym e ∙ ap (λ (y : AChannel). y.direction) found)
-        ∙ sym (ap (λ b. judged b (outward_at sc k) (Ok tt)) (lt-ltb k sc.channel_count below))
+-- the same of a channel
+pub gives : (sc : Program) (k : ℕ) → judging In sc.channels sc.channel_count k ≡ give_answer sc k
+gives sc k = inward (nat_lt k sc.channel_count) (outward_at sc k)
 
 -- what refuses a give refuses all else
 refused_by : (inside out : Bool) (r : Judged) (e : Refusal) → Err e ≡ judged inside out (Ok tt) → Err e ≡ judged inside out r

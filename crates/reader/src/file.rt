@@ -8,9 +8,10 @@ ghost use Rattle.format.specs.Rules.{fault};
 ghost use Rattle.reader.specs.Left.{Gives};
 ghost use Rattle.reader.specs.Parsed.{Parses};
 
-use crate::table::{ChannelReader, InstructionReader, read_records};
+use crate::table::{ChannelReader, read_records};
 use crate::unread::Unread;
 use format::layout::Site;
+use record_reader::instruction::InstructionReader;
 use refusal::{Fault, Part, Refusal};
 use script::accepted::Script;
 use script::parts::{Channel, Direction, Instruction};

@@ -7,7 +7,7 @@ ghost use Rattle.reader.specs.Left.{Gives};
 
 use crate::unread::Unread;
 use record_reader::channel::read_channel;
-use record_reader::instruction::read_instruction;
+use record_reader::instruction::InstructionReader;
 use refusal::{Fault, Part};
 use script::parts::{Channel, Instruction};
 
@@ -36,13 +36,6 @@ impl ReadRecord<Channel> for ChannelReader {
     }
 }
 
-// Reads instructions, in a script with these channels and so many instructions.
-#[derive(Clone, Copy)]
-pub(crate) struct InstructionReader<'c> {
-    pub channels: &'c [Channel],
-    pub count: u16,
-}
-
 impl<'c> ReadRecord<Instruction> for InstructionReader<'c> {
     ghost one = { λ s end i bs. read_instruction end i s.channels.now s.count bs };
 
@@ -52,7 +45,7 @@ impl<'c> ReadRecord<Instruction> for InstructionReader<'c> {
         unread: Unread<'a>,
     ) -> Result<(Instruction, Unread<'a>), Fault> {
         let site = unread.site(Part::Instruction(index));
-        let (instruction, bytes) = read_instruction(site, self.channels, self.count, unread.bytes)?;
+        let (instruction, bytes) = self.read_at(site, unread.bytes)?;
         Ok((instruction, unread.up_to(bytes)))
     }
 }

@@ -1,8 +1,8 @@
 // Channel records.
-ghost use Rattle.std.specs.Prelude.{◌≡◌, [], ◌∷◌, ◌++◌, map as each};
+ghost use Rattle.std.specs.Prelude.{◌≡◌, ◌<◌, ◌≤◌, [], ◌∷◌, ◌++◌, map as each, IfOk, MatchOption};
 ghost use Rattle.format.specs.Encoding.{channel_widths};
 ghost use Rattle.format.specs.Reading.{channel_of, direction_of, read_record};
-ghost use Rattle.format.specs.Rules.{channel_rules, not_zero};
+ghost use Rattle.format.specs.Rules.{channel_rules, not_zero, value_of};
 ghost use Rattle.field.specs.Outcomes.{Is, Keeps, Shrinks};
 
 use field::{check_below, check_zeros, has_bit, read_field};
@@ -10,24 +10,26 @@ use format::layout::{Field, Site};
 use refusal::{Fault, Refusal};
 use script::parts::{Channel, Direction};
 
-// The rules have judged the number, so none is refused here.
-fn direction(code: u32) -> Direction
-    ensures { result ≡ direction_of code }
+// The direction that has that number in a file.
+fn from_number(number: u32) -> Option<Direction>
+    ensures { MatchOption result (2 ≤ number) (λ d. (number < 2) × (d ≡ direction_of number)) }
 {
-    if code == 0 {
-        Direction::In
-    } else {
-        Direction::Out
+    match number {
+        0 => Some(Direction::In),
+        1 => Some(Direction::Out),
+        _ => None,
     }
 }
 
-// The rules of a channel record, in their order: zeros first, then ranges.
-fn check_channel(site: Site, levels: u8, direction: Field, level: Field) -> Result<(), Fault>
-    ensures { Keeps (each (not_zero site) (direction ∷ level ∷ []) ++ channel_rules levels site (direction ∷ level ∷ [])) result }
+// The direction of a channel record that keeps its rules, in their order: zeros first, then ranges.
+fn check_channel(site: Site, levels: u8, code: Field, level: Field) -> Result<Direction, Fault>
+    ensures is { IfOk result (λ d. d ≡ direction_of (value_of code)) }
+    ensures keeps { Keeps (each (not_zero site) (code ∷ level ∷ []) ++ channel_rules levels site (code ∷ level ∷ [])) result }
 {
-    check_zeros(site, &[direction, level])?;
-    check_below(site, direction, 2)?;
-    check_below(site, level, levels as u32)
+    check_zeros(site, &[code, level])?;
+    let direction = from_number(code.number()).ok_or(site.fault(Refusal::Range, code.byte))?;
+    check_below(site, level, levels as u32)?;
+    Ok(direction)
 }
 
 // The channel record at the front of `bytes`, in a script with that many levels. Its two guards stand in reading an
@@ -48,10 +50,10 @@ pub fn read_channel<'a>(
     }
     let (code, rest) = read_field::<u8>(site, has_bit(*map, 0), rest)?;
     let (level, rest) = read_field::<u8>(site, has_bit(*map, 1), rest)?;
-    check_channel(site, levels, code, level)?;
+    let direction = check_channel(site, levels, code, level)?;
     Ok((
         Channel {
-            direction: direction(code.number()),
+            direction,
             level: level.number() as u8,
         },
         rest,

@@ -75,9 +75,7 @@ fn check_kind(site: Site, f: RecordFields) -> Result<Kind, Fault>
     ensures known { IfOk result (λ k. kind_number k ≡ value_of f.kind) }
     ensures keeps { Keeps (kind_rules site (listed f)) result }
 {
-    let Some(kind) = Kind::from_number(f.kind.number()) else {
-        return Err(site.fault(Refusal::Range, f.kind.byte));
-    };
+    let kind = Kind::from_number(f.kind.number()).ok_or(site.fault(Refusal::Range, f.kind.byte))?;
     check_used(site, f.target, kind.uses_target())?;
     check_used(site, f.first, kind.uses_first())?;
     check_used(site, f.second, kind.uses_second())?;
@@ -96,45 +94,6 @@ fn is_suited(channels: &[Channel], kind: Kind, k: usize) -> bool
         Kind::Output => is_directed(channels, k, Direction::Out),
         _ => true,
     }
-}
-
-// The other ranges, in their order.
-fn check_ranges(
-    site: Site,
-    kind: Kind,
-    f: RecordFields,
-    channels: &[Channel],
-    count: u16,
-) -> Result<(), Fault>
-    requires { kind_number kind ≡ value_of f.kind }
-    ensures bounds { OnOk result ((value_of f.target < 16) × (value_of f.first < 16) × (value_of f.second < 16)) }
-    ensures keeps { Keeps (range_rules channels.now count site (listed f)) result }
-{
-    check_below(site, f.target, 16)?;
-    check_below(site, f.first, 16)?;
-    check_below(site, f.second, 16)?;
-    check_below(site, f.place, count as u32 + 1)?;
-    if !is_suited(channels, kind, f.channel.number() as usize) {
-        return Err(site.fault(Refusal::Range, f.channel.byte));
-    }
-    Ok(())
-}
-
-// The rules of an instruction record, in their order: zeros first, then the kind, then the other ranges.
-fn check_instruction(
-    site: Site,
-    f: RecordFields,
-    channels: &[Channel],
-    count: u16,
-) -> Result<Kind, Fault>
-    ensures known { IfOk result (λ k. kind_number k ≡ value_of f.kind) }
-    ensures bounds { OnOk result ((value_of f.target < 16) × (value_of f.first < 16) × (value_of f.second < 16)) }
-    ensures keeps { Keeps (each (not_zero site) (listed f) ++ instruction_rules channels.now count site (listed f)) result }
-{
-    check_zeros(site, &f.listed())?;
-    let kind = check_kind(site, f)?;
-    check_ranges(site, kind, f, channels, count)?;
-    Ok(kind)
 }
 
 // The instruction that checked fields make.
@@ -169,23 +128,55 @@ fn instruction_from(kind: Kind, f: RecordFields) -> Instruction
     }
 }
 
-// The instruction record at the front of `bytes`, in a script with these channels and `count` instructions.
-pub fn read_instruction<'a>(
-    site: Site,
-    channels: &[Channel],
-    count: u16,
-    bytes: &'a [u8],
-) -> Result<(Instruction, &'a [u8]), Fault>
-    ensures shrinks { Shrinks bytes.now result }
-    ensures is { Is (read_record instruction_widths (instruction_rules channels.now count) instruction_of site bytes.now) result }
-{
-    let [map, rest @ ..] = bytes else {
-        return Err(site.fault(Refusal::Short, site.length));
-    };
-    if *map >= 128 {
-        return Err(site.fault(Refusal::Map, site.map_at));
+// Reads instruction records of a script with these channels and so many instructions.
+#[derive(Clone, Copy)]
+pub struct InstructionReader<'c> {
+    pub channels: &'c [Channel],
+    pub count: u16,
+}
+
+impl<'c> InstructionReader<'c> {
+    // The other ranges, in their order.
+    fn check_ranges(self, site: Site, kind: Kind, f: RecordFields) -> Result<(), Fault>
+        requires { kind_number kind ≡ value_of f.kind }
+        ensures bounds { OnOk result ((value_of f.target < 16) × (value_of f.first < 16) × (value_of f.second < 16)) }
+        ensures keeps { Keeps (range_rules self.entry.channels.now self.entry.count site (listed f)) result }
+    {
+        check_below(site, f.target, 16)?;
+        check_below(site, f.first, 16)?;
+        check_below(site, f.second, 16)?;
+        check_below(site, f.place, self.count as u32 + 1)?;
+        if !is_suited(self.channels, kind, f.channel.number() as usize) {
+            return Err(site.fault(Refusal::Range, f.channel.byte));
+        }
+        Ok(())
     }
-    let (fields, rest) = read_fields(site, *map, rest)?;
-    let kind = check_instruction(site, fields, channels, count)?;
-    Ok((instruction_from(kind, fields), rest))
+
+    // The rules of an instruction record, in their order: zeros first, then the kind, then the other ranges.
+    fn check_instruction(self, site: Site, f: RecordFields) -> Result<Kind, Fault>
+        ensures known { IfOk result (λ k. kind_number k ≡ value_of f.kind) }
+        ensures bounds { OnOk result ((value_of f.target < 16) × (value_of f.first < 16) × (value_of f.second < 16)) }
+        ensures keeps { Keeps (each (not_zero site) (listed f) ++ instruction_rules self.entry.channels.now self.entry.count site (listed f)) result }
+    {
+        check_zeros(site, &f.listed())?;
+        let kind = check_kind(site, f)?;
+        self.check_ranges(site, kind, f)?;
+        Ok(kind)
+    }
+
+    // The instruction record of that site, at the front of `bytes`.
+    pub fn read_at<'a>(self, site: Site, bytes: &'a [u8]) -> Result<(Instruction, &'a [u8]), Fault>
+        ensures shrinks { Shrinks bytes.now result }
+        ensures is { Is (read_record instruction_widths (instruction_rules self.entry.channels.now self.entry.count) instruction_of site bytes.now) result }
+    {
+        let [map, rest @ ..] = bytes else {
+            return Err(site.fault(Refusal::Short, site.length));
+        };
+        if *map >= 128 {
+            return Err(site.fault(Refusal::Map, site.map_at));
+        }
+        let (fields, rest) = read_fields(site, *map, rest)?;
+        let kind = self.check_instruction(site, fields)?;
+        Ok((instruction_from(kind, fields), rest))
+    }
 }

@@ -1,14 +1,11 @@
 -- How long records are one after another. Assumes nothing.
-use Rattle.std.proofs.Common.{◌≡◌, ℕ, ◌+◌, ◌*◌, ◌<◌, ◌≤◌, ◌==◌, min, List, [], ◌∷◌, ◌++◌, length, get_or, take, sym, ap, ◌∙◌, ⊎_elim, arith, length-append, length-take}
+use Rattle.std.proofs.Common.{◌≡◌, ℕ, ◌+◌, ◌*◌, ◌<◌, ◌≤◌, ◌==◌, List, [], ◌∷◌, length, get_or, take, sym, ap, ◌∙◌, ⊎_elim, arith, length-append}
 use Rattle.std.specs.List.{flat_map, sum_by}
 use Rattle.std.proofs.lemmas.List.Concat.{length-flat_map}
 use Rattle.std.proofs.lemmas.List.Sums.{sum_by-cons}
-use Rattle.std.proofs.lemmas.List.{take_more, flat_map_more, take-take, take_all}
-use Rattle.std.proofs.lemmas.Bool.{cases_lt, cases_Bool}
-use Rattle.script.specs.declared.accepted.Script.{Script}
-use Rattle.script.specs.Model.{model_of}
-use Rattle.format.specs.Numbers.{bytes_of}
-use Rattle.format.specs.Encoding.{channel_widths, channel_values, encode_channel, instruction_widths, instruction_values, encode_instruction, field_of, body_of, encode, instruction_start}
+use Rattle.std.proofs.lemmas.List.{take_more, flat_map_more}
+use Rattle.std.proofs.lemmas.Bool.{cases_Bool}
+use Rattle.format.specs.Encoding.{channel_widths, channel_values, encode_channel, instruction_widths, instruction_values, encode_instruction, field_of, body_of}
 use Rattle.format.proofs.Round.{length_bytes_of}
 use Rattle.script.specs.declared.parts.Channel.{Channel}
 use Rattle.script.specs.declared.parts.Instruction.{Instruction}
@@ -37,19 +34,3 @@ channels_short (c ∷ cs) = omega (arith, length-append (encode_channel c) (flat
 pub instructions_short : (is : List Instruction) → length (flat_map encode_instruction is) ≤ 12 * length is
 instructions_short [] = omega arith
 instructions_short (i ∷ is) = omega (arith, length-append (encode_instruction i) (flat_map encode_instruction is), record_short instruction_widths (instruction_values i), instructions_short is)
-
--- the first i of the used part of a table
-pub used : {X : Type 0} (i c k : ℕ) (xs : List X) → k ≡ min i c → take k xs ≡ take i (take c xs)
-used i c k xs e =
-    ⊎_elim
-    (λ lt. let same : k ≡ i = omega arith in ap (λ j. take j xs) same ∙ sym (take-take i c xs (omega arith)))
-    (λ le. let same : k ≡ c = omega arith in ap (λ j. take j xs) same ∙ sym (take_all i (take c xs) (omega (arith, length-take c xs))))
-    (cases_lt i c)
-
--- the file ends after its last instruction
-pub whole_length : (s : Script) → instruction_start (model_of s) s.instruction_count ≡ length (encode s)
-whole_length s =
-    let cs = flat_map encode_channel (model_of s).channels in
-    let is = (model_of s).instructions in
-    let all : take s.instruction_count is ≡ is = take_all s.instruction_count is (omega (arith, length-take s.instruction_count s.instructions)) in
-    omega (arith, ap (λ l. length (flat_map encode_instruction l)) all, length-append cs (bytes_of 2 (length is) ++ flat_map encode_instruction is))

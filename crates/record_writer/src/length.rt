@@ -21,8 +21,8 @@ pub fn channel_start(script: &Script, index: usize) -> usize
     ensures few { result ≤ 194 }
     ensures is { result ≡ channel_start (model_of script.now) index }
 {
-    let count = index.min(script.channel_count);
-    2 + records_length(&script.channels[..count])
+    let channels = script.channels();
+    2 + records_length(&channels[..index.min(channels.len())])
 }
 
 // The same of instruction records.
@@ -31,8 +31,10 @@ pub fn instruction_start(script: &Script, index: usize) -> usize
     ensures is { result ≡ instruction_start (model_of script.now) index }
     ensures whole { index ≡ script.now.instruction_count → result ≡ length (encode script.now) }
 {
-    let count = index.min(script.instruction_count);
-    channel_start(script, script.channel_count) + 2 + records_length(&script.instructions[..count])
+    let instructions = script.instructions();
+    channel_start(script, script.channel_count)
+        + 2
+        + records_length(&instructions[..index.min(instructions.len())])
 }
 
 // How many bytes the script's file has.

@@ -1,5 +1,5 @@
 -- Tables with a count: their used part decides them. Assumes nothing.
-use Rattle.std.proofs.Common.{◌≡◌, ℕ, ◌≤◌, List, length, get_or, take, replicate, sym, ap, ◌∙◌, subst, ⊎_elim, arith}
+use Rattle.std.proofs.Common.{◌≡◌, ℕ, ◌≤◌, List, length, get_or, take, replicate, sym, ap, ◌∙◌, subst, ⊎_elim}
 use lib.ListN.{length-replicate}
 use Rattle.std.proofs.lemmas.List.{get_or-take, ext_get_or, get_or-replicate, get_or_past}
 use Rattle.std.proofs.lemmas.Bool.{cases_lt}

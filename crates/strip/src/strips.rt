@@ -9,8 +9,8 @@ pub mod calls;
 mod ends;
 
 // The first `len` entries are in use, in order of arrival: the memory is the maker's, of a size of its choice, so its
-// length in use stands beside it. `counts` has how many of them are of each channel, so that only a take has to look
-// through them.
+// length in use stands beside it. `counts` has how many of them are of each channel: to look through the entries at
+// each question would cost their number.
 #[derive(Drop)]
 pub struct StripHost<'a> {
     entries: &'a mut [Entry],

@@ -70,7 +70,7 @@ pub fn word_of(heap: Global, bytes: &[u8]) -> Result<String, AllocError>
     }
 }
 
-// The number that a word is.
+// The number that a word is. One line, as `mask_of` is: they differ in the base and in the error.
 fn count_of(word: &[u8]) -> Result<usize, LineError>
     ensures { result ≡ count_of word.now }
 {
@@ -116,6 +116,7 @@ fn capacity_of(word: &[u8]) -> Result<u16, LineError>
         .ok_or(LineError::Capacity)
 }
 
+// A value's two readers: the largest size below 0 is one more than the largest above.
 // The value of that size, if it is not too large.
 fn positive_of(size: Option<usize>) -> Result<i32, LineError>
     ensures { result ≡ positive size }
@@ -212,6 +213,7 @@ impl<'a> Words<'a> {
         ensures few { IfOk result (λ v. vec_len v ≤ 16) }
     {
         let mut entries = Vec::new(heap);
+        // Not `for`: each round takes its word from `self`, and `Words` is no iterator.
         while entries.len() < MOST_ENTRIES {
             let Some(word) = self.next_word() else {
                 return Ok(entries);

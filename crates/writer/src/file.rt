@@ -43,7 +43,7 @@ pub fn write_script(script: &Script, out: &mut [u8]) -> Result<usize, Refusal>
         return Err(Refusal::Buffer);
     }
     let at = put(out, 0, &[script.levels, script.channel_count as u8]);
-    let at = put_records(out, at, &script.channels[..script.channel_count]);
+    let at = put_records(out, at, script.channels());
     let at = put(out, at, &(script.instruction_count as u16).to_le_bytes());
-    Ok(put_records(out, at, &script.instructions[..script.instruction_count]))
+    Ok(put_records(out, at, script.instructions()))
 }

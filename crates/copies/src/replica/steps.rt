@@ -1,8 +1,8 @@
 // What a copy holds, and how it goes on.
-ghost use Rattle.std.specs.Prelude.{◌≡◌, ◌+◌, ◌<◌, ◌≤◌, ◌&&◌, true, nat_lt};
+ghost use Rattle.std.specs.Prelude.{◌≡◌, ◌+◌, ◌<◌, ◌≤◌, ◌&&◌, true, false, nat_lt};
 ghost use Rattle.meaning.specs.Copies.{assign, first, further, go_on, go_to};
-ghost use Rattle.copies.specs.Computed.{computed, targets};
-ghost use Rattle.copies.specs.Held.{copy_of};
+ghost use Rattle.copies.specs.Computed.{computed, computes, targets};
+ghost use Rattle.copies.specs.Held.{copy_of, reads};
 
 use crate::arithmetic::apply;
 use crate::replica::Replica;
@@ -92,18 +92,42 @@ impl Replica {
         }
     }
 
-    // The value of a tape goes to the register, and position and copy go on.
+    // The value of a tape goes to the register, and position and copy go on. What may not be done changes nothing, here and
+    // below.
     pub fn read(&mut self, target: u8, channel: u8, value: i32)
-        ensures { target < 16 → (copy_of self.old).next < 65535 → channel < 16 → (copy_of self.old).positions channel < 255 → copy_of self.new ≡ assign (further (copy_of self.old) channel) target value }
+        ensures done { target < 16 → (copy_of self.old).next < 65535 → channel < 16 → (copy_of self.old).positions channel < 255 → copy_of self.new ≡ assign (further (copy_of self.old) channel) target value }
+        ensures kept { reads (copy_of self.old) target channel ≡ false → self.new ≡ self.old }
     {
-        self.further(channel);
-        self.assign(target, value);
+        if self.may_assign(target) && self.may_go_further(channel) {
+            self.further(channel);
+            self.assign(target, value);
+        }
+    }
+
+    // Is there the register that the instruction sets, if it sets one, and a place after the copy's own?
+    pub(crate) fn may_compute(&self, instruction: Instruction) -> bool
+        ensures { result ≡ computes (copy_of self.now) instruction }
+    {
+        match instruction {
+            Instruction::Set { target, number: _ }
+            | Instruction::Compute {
+                operation: _,
+                target,
+                first: _,
+                second: _,
+            } => self.may_assign(target),
+            _ => self.next < u16::MAX,
+        }
     }
 
     // An instruction that neither takes a value in nor gives one out, in a script that ends at that place.
     pub fn compute(&mut self, instruction: Instruction, end: u16)
-        ensures { targets instruction ≡ true → (copy_of self.old).next < 65535 → copy_of self.new ≡ computed (copy_of self.old) end instruction }
+        ensures done { targets instruction ≡ true → (copy_of self.old).next < 65535 → copy_of self.new ≡ computed (copy_of self.old) end instruction }
+        ensures kept { computes (copy_of self.old) instruction ≡ false → self.new ≡ self.old }
     {
+        if !self.may_compute(instruction) {
+            return;
+        }
         match instruction {
             Instruction::Skip => self.go_on(),
             Instruction::Set { target, number } => self.assign(target, number),

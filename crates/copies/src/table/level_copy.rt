@@ -2,7 +2,7 @@
 ghost use Rattle.std.specs.Prelude.{◌≡◌, ◌<◌, true, false};
 ghost use Rattle.meaning.specs.Copies.{assign, first, further, go_to};
 ghost use Rattle.copies.specs.Computed.{computed, targets};
-ghost use Rattle.copies.specs.Held.{Moved, can_assign, can_read, can_step, copy_in};
+ghost use Rattle.copies.specs.Held.{Moved, can_assign, can_compute, can_read, can_step, copy_in};
 
 use crate::replica::Replica;
 use crate::table::LevelCopy;
@@ -63,9 +63,9 @@ impl LevelCopy {
     // An instruction that neither takes a value in nor gives one out, in one step.
     pub(crate) fn compute(&mut self, instruction: Instruction, end: u16)
         ensures done { can_step self.old ≡ true → targets instruction ≡ true → (copy_in self.old).next < 65535 → Moved self.old self.new (computed (copy_in self.old) end instruction) }
-        ensures kept { can_step self.old ≡ false → self.new ≡ self.old }
+        ensures kept { can_compute self.old instruction ≡ false → self.new ≡ self.old }
     {
-        if self.can_step() {
+        if self.can_step() && self.copy.may_compute(instruction) {
             self.copy.compute(instruction, end);
             self.steps += 1;
         }

@@ -2,7 +2,7 @@
 ghost use Rattle.std.specs.Prelude.{◌≡◌, ℕ, suc, ◌<◌, true, false};
 ghost use Rattle.meaning.specs.Copies.{assign, first, further, go_to};
 ghost use Rattle.copies.specs.Computed.{computed, targets};
-ghost use Rattle.copies.specs.Held.{Stepped, copies_of, may_assign, may_read, may_step, steps_of};
+ghost use Rattle.copies.specs.Held.{Stepped, copies_of, may_assign, may_compute, may_read, may_step, steps_of};
 
 use crate::table::{Copies, LevelCopy};
 use script::parts::Instruction;
@@ -87,7 +87,7 @@ impl Copies {
     // An instruction that neither takes a value in nor gives one out, in one step, in a script that ends at that place.
     pub fn compute(&mut self, level: u8, instruction: Instruction, end: u16)
         ensures done { may_step self.old level ≡ true → targets instruction ≡ true → (copies_of self.old level).next < 65535 → Stepped self.old self.new level (computed (copies_of self.old level) end instruction) }
-        ensures kept { may_step self.old level ≡ false → self.new ≡ self.old }
+        ensures kept { may_compute self.old level instruction ≡ false → self.new ≡ self.old }
     {
         if level < 16 {
             self.copies[level as usize].compute(instruction, end);

@@ -4,7 +4,7 @@ ghost use Rattle.host.specs.Channels.{IfAccepted, IfRefused};
 ghost use Rattle.meaning.specs.Answers.{ask as asks, collect as collects, collected_by, fed_by, feed as feeds, told_by, turn as turns, turned_by};
 ghost use Rattle.meaning.specs.Promises.{Promises};
 ghost use Rattle.meaning.specs.Visits.{framed, opened};
-ghost use Rattle.engine.specs.Serves.{TurnMemory, fitting, judging};
+ghost use Rattle.engine.specs.Serves.{TurnMemory, fitting};
 ghost use Rattle.engine.specs.Views.{Serves, frame_of, opening, state_of};
 
 use crate::visit::{Course, Visit};
@@ -50,19 +50,6 @@ impl<R: Regime, H: Host> Visit<R, H> {
         Ok(())
     }
 
-    // Whether it is a channel of the script, by which values go that way.
-    fn judge(&self, channel: u8, direction: Direction) -> Result<(), Refusal>
-        ensures { result ≡ judging (frame_of R.Regime.order H.Host.channels self.now) channel direction }
-    {
-        if channel as usize >= self.script.channel_count {
-            return Err(Refusal::Channel);
-        }
-        if self.script.channels[channel as usize].direction != direction {
-            return Err(Refusal::Direction);
-        }
-        Ok(())
-    }
-
     // The world puts a value to an in channel.
     pub fn feed(&mut self, channel: u8, value: i32) -> Result<(), Refusal>
         ensures served { Serves R.Regime.order H.Host.channels self.old (feeds channel value) self.new (fed_by result) }
@@ -70,7 +57,7 @@ impl<R: Regime, H: Host> Visit<R, H> {
         ensures memory { IfAccepted result (H.Host.puts self.old.host channel value self.new.host) }
     {
         self.fit()?;
-        self.judge(channel, Direction::In)?;
+        self.script.judge(channel, Direction::In)?;
         self.host.put(channel, value)
     }
 
@@ -81,7 +68,7 @@ impl<R: Regime, H: Host> Visit<R, H> {
         ensures memory { IfAccepted result (H.Host.takes self.old.host channel self.new.host) }
     {
         self.fit()?;
-        self.judge(channel, Direction::Out)?;
+        self.script.judge(channel, Direction::Out)?;
         self.host.take(channel)
     }
 

@@ -96,10 +96,7 @@ impl<R: Regime, H: Host> Visit<R, H> {
         ensures { Acts R.Regime.order H.Host.channels H.Host.puts H.Host.takes self.old level (λ f s. plan f s level) result self.new }
     {
         let next = self.course.copies.next(level);
-        if next as usize >= self.script.instruction_count {
-            return None;
-        }
-        match self.script.instructions[next as usize] {
+        match self.script.instruction_at(next)? {
             Instruction::Input { target, channel } => self.read(level, target, channel),
             Instruction::Output { first, channel } => self.write(level, first, channel),
             inner => {

@@ -69,14 +69,11 @@ impl<R: Regime, H: Host> Visit<R, H> {
         requires { Fits R.Regime.order H.Host.channels self.now }
         ensures { result ≡ status_of (plan (frame_of R.Regime.order H.Host.channels self.now) (state_of H.Host.channels self.now) level) }
     {
-        let next = self.course.copies.next(level) as usize;
-        if next >= self.script.instruction_count {
-            return Status::Ended;
-        }
-        match self.script.instructions[next] {
-            Instruction::Input { channel, .. } => self.read_status(level, channel),
-            Instruction::Output { channel, .. } => self.write_status(level, channel),
-            _ => Status::Ready,
+        match self.script.instruction_at(self.course.copies.next(level)) {
+            None => Status::Ended,
+            Some(Instruction::Input { channel, .. }) => self.read_status(level, channel),
+            Some(Instruction::Output { channel, .. }) => self.write_status(level, channel),
+            Some(_) => Status::Ready,
         }
     }
 

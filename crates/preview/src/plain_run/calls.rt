@@ -18,13 +18,7 @@ use script::parts::Direction;
 fn judge(script: &Script, channel: u8) -> Result<(), Refusal>
     ensures { result ≡ give_answer (program script.now) channel }
 {
-    match script.channels[..script.channel_count].get(channel as usize) {
-        None => Err(Refusal::Channel),
-        Some(channel) => match channel.direction {
-            Direction::Out => Err(Refusal::Direction),
-            Direction::In => Ok(()),
-        },
-    }
+    script.judge(channel, Direction::In)
 }
 
 // Whether the list can hold one value more.

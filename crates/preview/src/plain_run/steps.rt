@@ -56,13 +56,9 @@ impl PlainRun {
         ensures given { given_of self.new ≡ given_of self.old }
         ensures lists { self.new.lists ≡ self.old.lists }
     {
-        let next = self.copy.next();
-        let end = self.script.instruction_count;
-        if next as usize >= end {
-            return Did::Ended;
-        }
-        match self.script.instructions[next as usize] {
-            Instruction::Input { target, channel } => {
+        match self.script.instruction_at(self.copy.next()) {
+            None => Did::Ended,
+            Some(Instruction::Input { target, channel }) => {
                 read(
                     self.lists[channel as usize],
                     &mut self.copy,
@@ -70,9 +66,10 @@ impl PlainRun {
                     channel,
                 )
             }
-            Instruction::Output { first, channel } => write(&mut self.copy, first, channel),
-            inner => {
-                self.copy.compute(inner, end as u16);
+            Some(Instruction::Output { first, channel }) => write(&mut self.copy, first, channel),
+            Some(inner) => {
+                self.copy
+                    .compute(inner, self.script.instruction_count as u16);
                 Did::Inner
             }
         }

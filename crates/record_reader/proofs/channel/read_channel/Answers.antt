@@ -21,10 +21,10 @@ parsed c =
     (fields_more _ 1 (1 ∷ []) _ _ _ c.has_bit.ensures _ _ last end c.in_ok-code.ensures.is
     (fields_more _ 1 [] _ _ _ c.has_bit-2.ensures _ _ [] end c.in_ok-level.ensures.is refl))
 
-pub returns-in_err-check_channel : goal.returns-in_err-check_channel
-returns-in_err-check_channel c =
-    let p = err_from_is_err_and c.from_residual-in_err-check_channel.result c.from_residual-in_err-check_channel.ensures.1 in
-    rw (p.1, p.2) (record { shrinks = tt; is = refused _ _ _ _ (parsed (goal.at.returns-in_err-check_channel c).In_ok-level) c.in_err-check_channel.ensures })
+pub returns-in_err-direction : goal.returns-in_err-direction
+returns-in_err-direction c =
+    let p = err_from_is_err_and c.from_residual-in_err-direction.result c.from_residual-in_err-direction.ensures.1 in
+    rw (p.1, p.2) (record { shrinks = tt; is = refused _ _ _ _ (parsed (goal.at.returns-in_err-direction c).In_ok-level) c.in_err-direction.ensures.keeps })
 
 pub returns : goal.returns
-returns c = record { shrinks = search rules; is = passed _ _ _ _ (parsed (goal.at.returns c).In_ok-level) c.in_ok-check_channel.ensures (cc c.direction.ensures) }
+returns c = record { shrinks = search rules; is = passed _ _ _ _ (parsed (goal.at.returns c).In_ok-level) c.in_ok-direction.ensures.keeps (cc c.in_ok-direction.ensures.is) }

@@ -3,20 +3,20 @@ use Rattle.std.proofs.lemmas.Result.{err_from_is_err_and}
 use Rattle.format.specs.Rules.{broken, not_zero, instruction_rules, kind_rules, range_rules}
 use Rattle.format.proofs.Steps.{broken_stops, broken_append}
 use Rattle.record_reader.specs.Listed.{listed}
-use Rattle.record_reader.proofs.instruction.check_instruction.Goals as goal
-use Rattle.record_reader.proofs.instruction.check_instruction.Goals.{In_ok-check_zeros}
+use Rattle.record_reader.proofs.instruction.InstructionReader.check_instruction.Goals as goal
+use Rattle.record_reader.proofs.instruction.InstructionReader.check_instruction.Goals.{In_ok-check_zeros}
 
 -- no field is 0, so the record's own rules decide
 past_zeros : (c : In_ok-check_zeros) →
     let s = c.args.site in
     let fs = listed c.args.f in
-    let own = instruction_rules c.args.channels.now c.args.count s fs in
+    let own = instruction_rules c.args.self.channels.now c.args.self.count s fs in
     broken (map (not_zero s) fs ++ own) ≡ broken own
 past_zeros c =
     let s = c.args.site in
     let fs = listed c.args.f in
     let clean : broken (map (not_zero s) fs) ≡ None = rw c.listed.ensures at c.in_ok-check_zeros.ensures in
-    broken_append (map (not_zero s) fs) (instruction_rules c.args.channels.now c.args.count s fs) clean
+    broken_append (map (not_zero s) fs) (instruction_rules c.args.self.channels.now c.args.self.count s fs) clean
 
 pub returns-in_err-check_zeros-clause-keeps : goal.returns-in_err-check_zeros-clause-keeps
 returns-in_err-check_zeros-clause-keeps c =
@@ -24,7 +24,7 @@ returns-in_err-check_zeros-clause-keeps c =
     let s = c.args.site in
     let fs = listed c.args.f in
     let stop = rw c.listed.ensures at c.in_err-check_zeros.ensures in
-    rw (p.1, p.2) (broken_stops (map (not_zero s) fs) (instruction_rules c.args.channels.now c.args.count s fs) _ stop)
+    rw (p.1, p.2) (broken_stops (map (not_zero s) fs) (instruction_rules c.args.self.channels.now c.args.self.count s fs) _ stop)
 
 pub returns-in_err-kind-clause-keeps : goal.returns-in_err-kind-clause-keeps
 returns-in_err-kind-clause-keeps c =
@@ -32,7 +32,7 @@ returns-in_err-kind-clause-keeps c =
     let s = c.args.site in
     let fs = listed c.args.f in
     let on = past_zeros (goal.at.returns-in_err-kind-clause-keeps c).In_ok-check_zeros in
-    rw (p.1, p.2) (on ∙ broken_stops (kind_rules s fs) (range_rules c.args.channels.now c.args.count s fs) _ c.in_err-kind.ensures.keeps)
+    rw (p.1, p.2) (on ∙ broken_stops (kind_rules s fs) (range_rules c.args.self.channels.now c.args.self.count s fs) _ c.in_err-kind.ensures.keeps)
 
 pub returns-in_err-check_ranges-clause-keeps : goal.returns-in_err-check_ranges-clause-keeps
 returns-in_err-check_ranges-clause-keeps c =
@@ -40,5 +40,5 @@ returns-in_err-check_ranges-clause-keeps c =
     let s = c.args.site in
     let fs = listed c.args.f in
     let on = past_zeros (goal.at.returns-in_err-check_ranges-clause-keeps c).In_ok-check_zeros in
-    let known = broken_append (kind_rules s fs) (range_rules c.args.channels.now c.args.count s fs) c.in_ok-kind.ensures.keeps in
+    let known = broken_append (kind_rules s fs) (range_rules c.args.self.channels.now c.args.self.count s fs) c.in_ok-kind.ensures.keeps in
     rw (p.1, p.2) (on ∙ known ∙ c.in_err-check_ranges.ensures.keeps)

@@ -5,25 +5,25 @@ use Rattle.format.specs.Rules.{broken, not_zero, instruction_rules}
 use Rattle.format.specs.Reading.{unless, read_record, instruction_of}
 use Rattle.record_reader.specs.Listed.{listed}
 use Rattle.format.proofs.Steps.{refused, passed, record_made, record_stops}
-use Rattle.record_reader.proofs.instruction.read_instruction.Goals as goal
-use Rattle.record_reader.proofs.instruction.read_instruction.Goals.{In_ok-fields}
+use Rattle.record_reader.proofs.instruction.InstructionReader.read_at.Goals as goal
+use Rattle.record_reader.proofs.instruction.InstructionReader.read_at.Goals.{In_ok-fields}
 
 pub returns-in_err-fields : goal.returns-in_err-fields
 returns-in_err-fields c =
     let p = err_from_is_err_and c.from_residual.result c.from_residual.ensures.1 in
     let long : 1 ≤ length c.args.bytes.now = search rules in
     let small : get_or c.args.bytes.now 0 0 < 128 = search rules in
-    rw (p.1, p.2) (record { shrinks = tt; is = record_stops instruction_widths (instruction_rules c.args.channels.now c.args.count) instruction_of _ _ _ long small c.in_err-fields.ensures.is })
+    rw (p.1, p.2) (record { shrinks = tt; is = record_stops instruction_widths (instruction_rules c.args.self.channels.now c.args.self.count) instruction_of _ _ _ long small c.in_err-fields.ensures.is })
 
 -- the fields are read
 parsed : (c : In_ok-fields) →
     let fs = listed c.in_ok-fields.fields in
     let s = c.args.site in
-    read_record instruction_widths (instruction_rules c.args.channels.now c.args.count) instruction_of c.args.site c.args.bytes.now ≡ unless (broken (map (not_zero s) fs ++ instruction_rules c.args.channels.now c.args.count s fs)) (instruction_of fs, c.in_ok-fields.rest.now)
+    read_record instruction_widths (instruction_rules c.args.self.channels.now c.args.self.count) instruction_of c.args.site c.args.bytes.now ≡ unless (broken (map (not_zero s) fs ++ instruction_rules c.args.self.channels.now c.args.self.count s fs)) (instruction_of fs, c.in_ok-fields.rest.now)
 parsed c =
     let long : 1 ≤ length c.args.bytes.now = search rules in
     let small : get_or c.args.bytes.now 0 0 < 128 = search rules in
-    record_made instruction_widths (instruction_rules c.args.channels.now c.args.count) instruction_of _ _ (listed c.in_ok-fields.fields) c.in_ok-fields.rest.now long small c.in_ok-fields.ensures.is
+    record_made instruction_widths (instruction_rules c.args.self.channels.now c.args.self.count) instruction_of _ _ (listed c.in_ok-fields.fields) c.in_ok-fields.rest.now long small c.in_ok-fields.ensures.is
 
 pub returns-in_err-kind : goal.returns-in_err-kind
 returns-in_err-kind c =
