@@ -59,7 +59,8 @@ impl RecordBytes {
 }
 
 // The map of a channel record. Each field's bit stands beside the field's name, here and below: a loop over the fields
-// would need them as one array of slices, and a table of names beside it.
+// would need them as one array of slices, and a table of names beside it. The direction comes as its number, since a bit
+// says whether that is 0.
 fn channel_map(code: u8, level: u8) -> u8
     ensures { result ≡ map_of (code ∷ level ∷ []) }
 {
@@ -104,6 +105,7 @@ impl FileRecord for Channel {
 impl FileRecord for Instruction {
     ghost encoded = { encode_instruction };
 
+    // Its answer is by hand: the search does not join eight appended parts.
     fn to_bytes(self) -> RecordBytes {
         let f = self.fields();
         let mut record = RecordBytes::empty();
