@@ -12,6 +12,8 @@ ghost use Rattle.field.specs.Outcomes.{Cuts, Is, Keeps, Reads, Ruled, Shrinks};
 use format::layout::{Field, Site};
 use refusal::{Fault, Refusal};
 
+// Here and below a site and a field stay two parameters: a record has one site and up to seven fields.
+
 // A field that is there is not 0.
 fn check_nonzero(site: Site, field: Field) -> Result<(), Fault>
     ensures { Ruled (not (is_there field && value_of field == 0)) (fault Zero field.byte site.part) result }

@@ -2,6 +2,7 @@
 ghost use Rattle.format.specs.Laws.{AcceptedNotRefused, AcceptedOrRefused, AppendedSame, EveryByteWithin, InItsRecord, OneFile, OneRefusal, PrefixIsShort, TailExactly};
 
 // Two scripts with one file are equal.
+#[tactic(auto, using(crate::proofs::Theorems::one_file))]
 pub fn one_file_is_one_script()
     ensures { OneFile }
 {}
@@ -14,11 +15,13 @@ pub fn each_file_has_one_answer()
 {}
 
 // Every proper prefix of an accepted file is refused with 1 at its own length.
+#[tactic(auto, using(crate::proofs::Theorems::prefix_is_short))]
 pub fn prefix_is_short()
     ensures { PrefixIsShort }
 {}
 
 // A file is refused with 6 at p exactly where its first p bytes are accepted, and there are more.
+#[tactic(auto, using(crate::proofs::Theorems::tail_exactly))]
 pub fn tail_follows_a_file()
     ensures { TailExactly }
 {}
@@ -34,6 +37,7 @@ pub fn byte_is_within_the_file()
 {}
 
 // A fault lies in the record that it names, and all before that record is right.
+#[tactic(auto, using(crate::proofs::Theorems::in_its_record))]
 pub fn fault_lies_in_its_record()
     ensures { InItsRecord }
 {}

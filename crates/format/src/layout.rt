@@ -33,7 +33,7 @@ pub struct Field {
 }
 
 impl Field {
-    // The number that the field holds, 0 where it is absent.
+    // The number that the field holds, 0 where it is absent: by a method, which says so, as `From` would not.
     pub fn number(self) -> u32
         ensures { result ≡ value_of self }
     {

@@ -14,7 +14,7 @@ use format::layout::Site;
 use record_reader::instruction::InstructionReader;
 use refusal::{Fault, Part, Refusal};
 use script::accepted::Script;
-use script::parts::{Channel, Direction, Instruction};
+use script::parts::{Channel, Instruction};
 
 impl<'a> Unread<'a> {
     // The number of the first byte that is left.
@@ -110,10 +110,7 @@ fn parse(bytes: &[u8]) -> Result<Script, Fault>
     let (levels, unread) = unread.read_head(1, 16)?;
     let (c, unread) = unread.read_head(0, 16)?;
     let channel_count = usize::from(c);
-    let mut channels = [Channel {
-        direction: Direction::In,
-        level: 0,
-    }; 16];
+    let mut channels = [Channel::BLANK; 16];
     let reader = ChannelReader { levels };
     let unread = read_records(&reader, &mut channels[..channel_count], unread)?;
     let (instruction_count, unread) = unread.read_count()?;

@@ -20,7 +20,7 @@ pub(crate) trait ReadRecord<T> {
         ensures { Gives unread.entry.end (one self.now unread.entry.end index unread.entry.bytes.now) result };
 }
 
-// Reads channels, in a script of so many levels.
+// Reads channels, in a script of so many levels. A channel record needs this number alone, so its reading takes it as it is.
 #[derive(Clone, Copy)]
 pub(crate) struct ChannelReader {
     pub levels: u8,

@@ -10,7 +10,7 @@ use format::layout::{Field, Site};
 use refusal::{Fault, Refusal};
 use script::parts::{Channel, Direction};
 
-// The direction that has that number in a file.
+// The direction that has that number in a file: an option and no `TryFrom`, since the caller names the fault.
 fn from_number(number: u32) -> Option<Direction>
     ensures { MatchOption result (2 ≤ number) (λ d. (number < 2) × (d ≡ direction_of number)) }
 {

@@ -14,7 +14,8 @@ use refusal::{Fault, Refusal};
 use script::build::is_directed;
 use script::parts::{Channel, Direction, Instruction};
 
-// The fields of an instruction record as they stand in the file.
+// The fields of an instruction record as they stand in the file. The site is not one of them: it is known before they are
+// read, and for a channel's fields too.
 #[derive(Clone, Copy)]
 pub(crate) struct RecordFields {
     pub kind: Field,
@@ -152,7 +153,8 @@ impl<'c> InstructionReader<'c> {
         Ok(())
     }
 
-    // The rules of an instruction record, in their order: zeros first, then the kind, then the other ranges.
+    // The rules of an instruction record, in their order: zeros first, then the kind, then the other ranges. Its answers are
+    // by hand: the search does not see that one list of rules is the three lists in turn.
     fn check_instruction(self, site: Site, f: RecordFields) -> Result<Kind, Fault>
         ensures known { IfOk result (λ k. kind_number k ≡ value_of f.kind) }
         ensures bounds { OnOk result ((value_of f.target < 16) × (value_of f.first < 16) × (value_of f.second < 16)) }
@@ -164,7 +166,8 @@ impl<'c> InstructionReader<'c> {
         Ok(kind)
     }
 
-    // The instruction record of that site, at the front of `bytes`.
+    // The instruction record of that site, at the front of `bytes`. Its two guards stand in reading a channel too: what a
+    // helper would promise of them is longer than they are.
     pub fn read_at<'a>(self, site: Site, bytes: &'a [u8]) -> Result<(Instruction, &'a [u8]), Fault>
         ensures shrinks { Shrinks bytes.now result }
         ensures is { Is (read_record instruction_widths (instruction_rules self.entry.channels.now self.entry.count) instruction_of site bytes.now) result }

@@ -18,7 +18,7 @@ pub(crate) enum Kind {
 }
 
 impl Kind {
-    // The kind that has that number in a file.
+    // The kind that has that number in a file: an option and no `TryFrom`, since the caller names the fault.
     pub(crate) fn from_number(number: u32) -> Option<Kind>
         ensures { MatchOption result (13 ≤ number) (λ k. kind_number k ≡ number) }
     {

@@ -32,6 +32,6 @@ byte_written v h = let low : v % 256 ≡ v = omega arith in let same : v + 256 *
 pub written : (w v : ℕ) → v < 256 ^ w → (if number (bytes_of w v) == 0 then [] else bytes_of w v) ≡ field_of w v
 written w v h = simp (number_bytes_of w v h)
 
--- the map and seven fields, one after another
-pub joined : (m : ℕ) (r0 r1 r2 r3 r4 r5 r6 r7 f1 f2 f3 f4 f5 f6 f7 : List ℕ) → r0 ≡ m ∷ [] → r1 ≡ r0 ++ f1 → r2 ≡ r1 ++ f2 → r3 ≡ r2 ++ f3 → r4 ≡ r3 ++ f4 → r5 ≡ r4 ++ f5 → r6 ≡ r5 ++ f6 → r7 ≡ r6 ++ f7 → r7 ≡ m ∷ (f1 ++ (f2 ++ (f3 ++ (f4 ++ (f5 ++ (f6 ++ (f7 ++ [])))))))
-joined m r0 r1 r2 r3 r4 r5 r6 r7 f1 f2 f3 f4 f5 f6 f7 e0 e1 e2 e3 e4 e5 e6 e7 = simp (e7, e6, e5, e4, e3, e2, e1, e0, append_assoc, append-nil)
+-- the map, kind and registers, and three more fields, one after another
+pub joined : (m : ℕ) (r0 r4 r5 r6 r7 f1 f2 f3 f4 f5 f6 f7 : List ℕ) → r0 ≡ m ∷ [] → r4 ≡ r0 ++ (f1 ++ (f2 ++ (f3 ++ f4))) → r5 ≡ r4 ++ f5 → r6 ≡ r5 ++ f6 → r7 ≡ r6 ++ f7 → r7 ≡ m ∷ (f1 ++ (f2 ++ (f3 ++ (f4 ++ (f5 ++ (f6 ++ (f7 ++ [])))))))
+joined m r0 r4 r5 r6 r7 f1 f2 f3 f4 f5 f6 f7 e0 e4 e5 e6 e7 = simp (e7, e6, e5, e4, e0, append_assoc, append-nil)

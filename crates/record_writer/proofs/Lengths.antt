@@ -1,5 +1,5 @@
 -- How long records are one after another. Assumes nothing.
-use Rattle.std.proofs.Common.{◌≡◌, ℕ, ◌+◌, ◌*◌, ◌<◌, ◌≤◌, ◌==◌, List, [], ◌∷◌, length, get_or, take, sym, ap, ◌∙◌, ⊎_elim, arith, length-append}
+use Rattle.std.proofs.Common.{◌≡◌, ℕ, ◌+◌, ◌*◌, ◌<◌, ◌≤◌, ◌==◌, List, [], ◌∷◌, length, get_or, take, sym, ap, ◌∙◌, ⊎_elim, arith, length-append, length-take}
 use Rattle.std.specs.List.{flat_map, sum_by}
 use Rattle.std.proofs.lemmas.List.Concat.{length-flat_map}
 use Rattle.std.proofs.lemmas.List.Sums.{sum_by-cons}
@@ -17,6 +17,10 @@ longer enc xs i d h = ap (λ l. length (flat_map enc l)) (take_more xs i d h) �
 -- records are as long together as they are one by one
 pub joined_length : {X : Type 0} (enc : X → List ℕ) (xs : List X) → length (flat_map enc xs) ≡ sum_by (λ x. length (enc x)) xs
 joined_length enc xs = length-flat_map enc xs
+
+-- no more are taken than are asked for
+pub front_short : {X : Type 0} (k : ℕ) (xs : List X) → length (take k xs) ≤ k
+front_short k xs = omega (arith, length-take k xs)
 
 field_short : (w v : ℕ) → length (field_of w v) ≤ w
 field_short w v = ⊎_elim (λ e. rw e (omega arith)) (λ e. rw e (omega (arith, length_bytes_of w v))) (cases_Bool (v == 0))

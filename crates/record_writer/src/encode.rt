@@ -56,10 +56,24 @@ impl RecordBytes {
             self.append(&field);
         }
     }
+
+    // The kind of an instruction and its registers, a byte each.
+    #[tactic(auto, using(crate::proofs::Fields::byte_written))]
+    fn append_registers(&mut self, f: Fields)
+        requires { self.old.len + 4 ≤ 12 }
+        ensures held { held self.new ≡ held self.old ++ (field_of 1 f.kind ++ (field_of 1 f.target ++ (field_of 1 f.first ++ field_of 1 f.second))) }
+        ensures len { self.new.len ≤ self.old.len + 4 }
+    {
+        self.append_field([f.kind]);
+        self.append_field([f.target]);
+        self.append_field([f.first]);
+        self.append_field([f.second]);
+    }
 }
 
 // The map of a channel record. Each field's bit stands beside the field's name, here and below: a loop over the fields
-// would need them as one array of slices, and a table of names beside it.
+// would need them as one array of slices, and a table of names beside it. The direction comes as its number, since a bit
+// says whether that is 0.
 fn channel_map(code: u8, level: u8) -> u8
     ensures { result ≡ map_of (code ∷ level ∷ []) }
 {
@@ -104,14 +118,12 @@ impl FileRecord for Channel {
 impl FileRecord for Instruction {
     ghost encoded = { encode_instruction };
 
+    // Its answer is by hand: the search does not join the appended parts.
     fn to_bytes(self) -> RecordBytes {
         let f = self.fields();
         let mut record = RecordBytes::empty();
         record.append(&[instruction_map(f)]);
-        record.append_field([f.kind]);
-        record.append_field([f.target]);
-        record.append_field([f.first]);
-        record.append_field([f.second]);
+        record.append_registers(f);
         record.append_field(f.number.to_le_bytes());
         record.append_field(f.place.to_le_bytes());
         record.append_field([f.channel]);

@@ -34,7 +34,7 @@ impl Refusal {
         self as u8
     }
 
-    // The word by which people call it.
+    // The word by which people call it: by a method too, since no contract of a `Display` says which word it writes.
     pub fn name(self) -> &'static str
         ensures { result.now ≡ name_of self }
     {

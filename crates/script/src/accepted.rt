@@ -52,10 +52,13 @@ impl Script {
     pub fn judge(&self, channel: u8, direction: Direction) -> Result<(), Refusal>
         ensures { result ≡ judging direction self.now.channels self.now.channel_count channel }
     {
-        match self.channels().get(usize::from(channel)) {
-            None => Err(Refusal::Channel),
-            Some(channel) if channel.direction != direction => Err(Refusal::Direction),
-            Some(_) => Ok(()),
+        let channel = self
+            .channels()
+            .get(usize::from(channel))
+            .ok_or(Refusal::Channel)?;
+        if channel.direction != direction {
+            return Err(Refusal::Direction);
         }
+        Ok(())
     }
 }

@@ -1,5 +1,5 @@
 // Building a script by hand, from parts that anybody may have made.
-ghost use Rattle.std.specs.Prelude.{◌≡◌, ℕ, ◌<◌, ◌≤◌, true, false, ◌++◌, length, take, MatchResult};
+ghost use Rattle.std.specs.Prelude.{◌≡◌, ℕ, ◌<◌, ◌≤◌, true, false, ◌++◌, length, take, Err, MatchResult};
 ghost use Rattle.refusal.specs.declared.Part.TheVariants as part;
 ghost use Rattle.refusal.specs.declared.Refusal.TheVariants as why;
 ghost use Rattle.script.specs.Flaws.{Builds, FirstHigh, FirstUnsound, flaw};
@@ -61,17 +61,25 @@ fn judge_head(levels: u8, channels: usize) -> Result<(), Flaw>
     )
 }
 
-// Channels and instructions each have a law and a part of their own, so the search for the first flaw stands twice.
+// The refusal of a channel or an instruction that breaks its law.
+fn out_of_range(part: Part) -> Result<(), Flaw>
+    ensures { result ≡ Err (flaw why.Range part) }
+{
+    Err(Flaw {
+        refusal: Refusal::Range,
+        part,
+    })
+}
+
+// The search for the first flaw is `position`. It stands twice, since channels and instructions each have a law and a part
+// of their own, and what one function would have to say of a law that it is given is longer than both.
 fn judge_channels(levels: u8, channels: &[Channel]) -> Result<(), Flaw>
     ensures { MatchResult result (λ _. Below levels channels.now (length channels.now)) (λ f. ((i : ℕ) × (f ≡ flaw why.Range (part.Channel i)) × FirstHigh levels channels.now i)) }
 {
-    match channels.iter().position(|channel| channel.level >= levels) {
-        Some(i) => Err(Flaw {
-            refusal: Refusal::Range,
-            part: Part::Channel(i),
-        }),
-        None => Ok(()),
-    }
+    channels
+        .iter()
+        .position(|channel| channel.level >= levels)
+        .map_or(Ok(()), |i| out_of_range(Part::Channel(i)))
 }
 
 fn judge_count(count: usize) -> Result<(), Flaw>
@@ -84,16 +92,10 @@ fn judge_instructions(channels: &[Channel], instructions: &[Instruction]) -> Res
     ensures { MatchResult result (λ _. Sound channels.now (length channels.now) (length instructions.now) instructions.now (length instructions.now)) (λ f. ((i : ℕ) × (f ≡ flaw why.Range (part.Instruction i)) × FirstUnsound channels.now instructions.now i)) }
 {
     let count = instructions.len();
-    match instructions
+    instructions
         .iter()
         .position(|instruction| !is_sound(channels, count, *instruction))
-    {
-        Some(i) => Err(Flaw {
-            refusal: Refusal::Range,
-            part: Part::Instruction(i),
-        }),
-        None => Ok(()),
-    }
+        .map_or(Ok(()), |i| out_of_range(Part::Instruction(i)))
 }
 
 // A table that begins with the items and is blank past them.
@@ -124,13 +126,7 @@ impl Script {
         Ok(Script {
             levels,
             channel_count: channels.len(),
-            channels: filled(
-                Channel {
-                    direction: Direction::In,
-                    level: 0,
-                },
-                channels,
-            ),
+            channels: filled(Channel::BLANK, channels),
             instruction_count: instructions.len(),
             instructions: filled(Instruction::Skip, instructions),
         })

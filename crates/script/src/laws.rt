@@ -7,11 +7,13 @@ use crate::accepted::Script;
 use crate::parts::{Channel, Instruction};
 
 // Every script holds an accepted model.
+#[tactic(auto, using(crate::proofs::Held::every_script_accepted))]
 pub fn every_script_is_accepted()
     ensures { EveryScriptAccepted }
 {}
 
 // Two scripts that hold the same are one value.
+#[tactic(auto, using(crate::proofs::Held::same_script))]
 pub fn same_script_is_one_value()
     ensures { SameScript }
 {}

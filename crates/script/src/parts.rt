@@ -10,7 +10,7 @@ pub enum Direction {
 }
 
 impl Direction {
-    // Its number in a file.
+    // Its number in a file: by a method, which says what the number is, as `From` would not.
     pub fn code(self) -> u8
         ensures { result ≡ code_of self }
     {
@@ -22,6 +22,14 @@ impl Direction {
 pub struct Channel {
     pub direction: Direction,
     pub level: u8,
+}
+
+impl Channel {
+    // What a table of channels holds past those that count.
+    pub const BLANK: Channel = Channel {
+        direction: Direction::In,
+        level: 0,
+    };
 }
 
 // What is computed from two registers, as a file numbers the instruction kinds.
@@ -37,7 +45,7 @@ pub enum Operation {
 }
 
 impl Operation {
-    // The number of the instruction kind that computes it.
+    // The number of the instruction kind that computes it, by a method for the same reason.
     pub fn kind(self) -> u8
         ensures { result ≡ kind_of self }
     {
@@ -88,52 +96,58 @@ pub struct Fields {
 }
 
 impl Instruction {
+    // The number of its kind in a file.
+    fn kind(self) -> u8
+        ensures { result ≡ (fields_of self).kind }
+    {
+        match self {
+            Instruction::Skip => 0,
+            Instruction::Set { .. } => 1,
+            Instruction::Compute { operation, .. } => operation.kind(),
+            Instruction::Jump { .. } => 9,
+            Instruction::Input { .. } => 10,
+            Instruction::Output { .. } => 11,
+            Instruction::Stop => 12,
+        }
+    }
+
     pub fn fields(self) -> Fields
         ensures { result ≡ fields_of self }
     {
+        let mut fields = Fields::default();
+        fields.kind = self.kind();
         match self {
-            Instruction::Skip => Fields::default(),
+            Instruction::Skip | Instruction::Stop => fields,
             Instruction::Set { target, number } => Fields {
-                kind: 1,
                 target,
                 number,
-                ..Fields::default()
+                ..fields
             },
             Instruction::Compute {
-                operation,
+                operation: _,
                 target,
                 first,
                 second,
-            } => {
-                Fields {
-                    kind: operation.kind(),
-                    target,
-                    first,
-                    second,
-                    ..Fields::default()
-                }
-            }
+            } => Fields {
+                target,
+                first,
+                second,
+                ..fields
+            },
             Instruction::Jump { first, place } => Fields {
-                kind: 9,
                 first,
                 place,
-                ..Fields::default()
+                ..fields
             },
             Instruction::Input { target, channel } => Fields {
-                kind: 10,
                 target,
                 channel,
-                ..Fields::default()
+                ..fields
             },
             Instruction::Output { first, channel } => Fields {
-                kind: 11,
                 first,
                 channel,
-                ..Fields::default()
-            },
-            Instruction::Stop => Fields {
-                kind: 12,
-                ..Fields::default()
+                ..fields
             },
         }
     }

@@ -8,7 +8,8 @@ pub use record_writer::length::encoded_length;
 use refusal::Refusal;
 use script::accepted::Script;
 
-// Writes the bytes from `at` on, and answers the place after them.
+// Writes the bytes from `at` on, and answers the place after them. The place is a number that is carried along: of a rest
+// that is split off again and again in a loop, a proof does not know what the whole buffer holds afterwards.
 #[tactic(auto, using(crate::proofs::Puts::put_is))]
 fn put(out: &mut [u8], at: usize, bytes: &[u8]) -> usize
     requires { at + length bytes.now ≤ length out.old }
