@@ -14,7 +14,7 @@ pub struct Tape {
     ghost size: { length values ≡ 64 },
 }
 
-// A tape for each channel.
+// A tape for each channel, in an array: a visit allocates nothing and its size is fixed.
 #[derive(Clone, Copy)]
 pub struct Tapes {
     tapes: [Tape; 16],

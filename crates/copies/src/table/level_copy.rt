@@ -54,7 +54,7 @@ impl LevelCopy {
         ensures done { can_read self.old target channel ≡ true → Moved self.old self.new (assign (further (copy_in self.old) channel) target value) }
         ensures kept { can_read self.old target channel ≡ false → self.new ≡ self.old }
     {
-        if self.can_step() && self.copy.may_assign(target) && self.copy.may_go_further(channel) {
+        if self.can_step() && self.copy.may_read(target, channel) {
             self.copy.read(target, channel, value);
             self.steps += 1;
         }

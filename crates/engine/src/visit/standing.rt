@@ -23,7 +23,8 @@ impl<R: Regime, H: Host> Visit<R, H> {
         self.script.channels[channel as usize].level
     }
 
-    // Does the host hold a value on the channel?
+    // Does the host hold a value on the channel? This and the next ask the host two questions; what they share is std's
+    // `is_ok_and`.
     #[tactic(auto, using(crate::proofs::Hosted::some_held))]
     fn holds(&self, channel: u8) -> bool
         requires { Port H.Host.channels self.now channel }
