@@ -54,7 +54,7 @@ impl Replica {
         channel < 16 && self.position(channel) < u8::MAX
     }
 
-    // Both.
+    // Is there all that a read takes?
     pub(crate) fn may_read(&self, target: u8, channel: u8) -> bool
         ensures { result ≡ reads (copy_of self.now) target channel }
     {

@@ -8,6 +8,8 @@ use crate::replica::Replica;
 use crate::table::LevelCopy;
 use script::parts::Instruction;
 
+// Four calls of one form, each with another test and another step: one function over them would take both as closures, and
+// its contract would be longer than they are.
 impl LevelCopy {
     // A copy as it begins, and no step done.
     pub(crate) fn first() -> LevelCopy
