@@ -7,7 +7,7 @@ use Rattle.std.proofs.lemmas.Bool.{lt-ltb, ltb-true, ltb-false}
 use Rattle.std.proofs.lemmas.Option.{slice_get_past, slice_get_read}
 use Rattle.host.proofs.Lists.{at_is, at_set}
 use Rattle.meaning.specs.Copies.{Copy, first, nth, with_at}
-use Rattle.copies.specs.Held.{Moved, Stepped, can_assign, can_read, can_step, copies_of, copy_in, may_assign, may_read, may_step, steps_in, steps_of}
+use Rattle.copies.specs.Held.{Moved, Stepped, assigns, reads, can_assign, can_read, can_step, copies_of, copy_in, may_assign, may_read, may_step, steps_in, steps_of}
 use Rattle.copies.specs.declared.table.Copies.{Copies}
 use Rattle.copies.specs.declared.table.LevelCopy.{LevelCopy}
 
@@ -48,10 +48,10 @@ module _ (t : Copies) (l : ℕ) (small : l < 16) (x : LevelCopy) (inside : l < l
   steps_too = ap (λ n. nat_lt n 4294967295) same_steps ∙ sym (ap (λ b. b && nat_lt (steps_of t l) 4294967295) (lt-ltb l 16 small))
 
   pub assigns_too : (i : ℕ) → can_assign here i ≡ may_assign t l i
-  assigns_too i = ap₂ (λ (b : Bool) (c : Copy). b && (nat_lt i 16 && nat_lt c.next 65535)) steps_too same_copy
+  assigns_too i = ap₂ (λ (b : Bool) (c : Copy). b && assigns c i) steps_too same_copy
 
   pub reads_too : (i k : ℕ) → can_read here i k ≡ may_read t l i k
-  reads_too i k = ap₂ (λ (b : Bool) (c : Copy). b && (nat_lt k 16 && nat_lt (c.positions k) 255)) (assigns_too i) same_copy
+  reads_too i k = ap₂ (λ (b : Bool) (c : Copy). b && reads c i k) steps_too same_copy
 
   -- and its step is the step of the table
   pub stepped : (y : LevelCopy) (f : Copy → Copy) → Moved here y (f (copy_in here)) → Stepped t (record { copies = set t.copies l y }) l (f (copies_of t l))

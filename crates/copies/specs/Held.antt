@@ -13,9 +13,13 @@ use Rattle.copies.specs.declared.tapes.Tapes.{Tapes}
 abbrev pub copy_of : Replica → Copy
 copy_of r = record { next = r.next; registers = λ i. slice_index_or r.registers i (pos 0); positions = λ k. slice_index r.positions k }
 
--- there is a register i and a place after the copy's own, a channel k and a position after the copy's own
+-- there is a register i, and a place after the copy's own
+abbrev pub assigns : Copy → ℕ → Bool
+assigns c i = nat_lt i 16 && nat_lt c.next 65535
+
+-- and there is a channel k, and a position after the copy's own
 abbrev pub reads : Copy → ℕ → ℕ → Bool
-reads c i k = (nat_lt i 16 && nat_lt c.next 65535) && (nat_lt k 16 && nat_lt (c.positions k) 255)
+reads c i k = assigns c i && (nat_lt k 16 && nat_lt (c.positions k) 255)
 
 -- the copy of a level, and its own steps
 abbrev pub copy_in : LevelCopy → Copy
@@ -40,15 +44,13 @@ pub record Moved (c d : LevelCopy) (x : Copy) : Type 0 where
 abbrev pub can_step : LevelCopy → Bool
 can_step c = nat_lt c.steps 4294967295
 
--- and there is a register i, and a place after the copy's own
+-- and it may set a register, read on in a tape, do an instruction that neither takes a value in nor gives one out
 abbrev pub can_assign : LevelCopy → ℕ → Bool
-can_assign c i = can_step c && (nat_lt i 16 && nat_lt (copy_in c).next 65535)
+can_assign c i = can_step c && assigns (copy_in c) i
 
--- and there is a channel k, and a position after the copy's own
 abbrev pub can_read : LevelCopy → ℕ → ℕ → Bool
-can_read c i k = can_assign c i && (nat_lt k 16 && nat_lt ((copy_in c).positions k) 255)
+can_read c i k = can_step c && reads (copy_in c) i k
 
--- and it may do an instruction that neither takes a value in nor gives one out
 abbrev pub can_compute : LevelCopy → Instruction → Bool
 can_compute c i = can_step c && computes (copy_in c) i
 
@@ -61,15 +63,13 @@ pub record Stepped (t u : Copies) (l : ℕ) (c : Copy) : Type 0 where
 abbrev pub may_step : Copies → ℕ → Bool
 may_step t l = nat_lt l 16 && nat_lt (steps_of t l) 4294967295
 
--- and there is a register i, and a place after the copy's own
+-- and it may do the same
 abbrev pub may_assign : Copies → ℕ → ℕ → Bool
-may_assign t l i = may_step t l && (nat_lt i 16 && nat_lt (copies_of t l).next 65535)
+may_assign t l i = may_step t l && assigns (copies_of t l) i
 
--- and there is a channel k, and a position after the copy's own
 abbrev pub may_read : Copies → ℕ → ℕ → ℕ → Bool
-may_read t l i k = may_assign t l i && (nat_lt k 16 && nat_lt ((copies_of t l).positions k) 255)
+may_read t l i k = may_step t l && reads (copies_of t l) i k
 
--- and it may do an instruction that neither takes a value in nor gives one out
 abbrev pub may_compute : Copies → ℕ → Instruction → Bool
 may_compute t l i = may_step t l && computes (copies_of t l) i
 

@@ -27,7 +27,8 @@ impl Source {
         }
         match next {
             Some(value) => Source::Tape(value),
-            None => { if own { Source::Host } else { Source::Owner } }
+            None if own => Source::Host,
+            None => Source::Owner,
         }
     }
 }

@@ -11,7 +11,7 @@ pub(crate) struct LevelCopy {
     steps: u32,
 }
 
-// A copy for each level.
+// A copy for each level, in an array: a visit allocates nothing and its size is fixed.
 #[derive(Clone, Copy)]
 pub struct Copies {
     copies: [LevelCopy; 16],

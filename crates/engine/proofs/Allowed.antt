@@ -24,7 +24,8 @@ module _ (c : Course) (l : ℕ) where
   pub reads : (t k : ℕ) → MayRead c l t k → may_read c.copies l t k ≡ true
   reads t k may =
       let before : (copies_of c.copies l).positions k < 255 = omega (arith, may.early) in
-      rw (assigns t may.assign, lt-ltb k 16 may.port, lt-ltb ((copies_of c.copies l).positions k) 255 before)
+      let early : (copies_of c.copies l).next < 65535 = omega (arith, may.assign.running) in
+      rw (steps_on may.assign.step, lt-ltb t 16 may.assign.register, lt-ltb (copies_of c.copies l).next 65535 early, lt-ltb k 16 may.port, lt-ltb ((copies_of c.copies l).positions k) 255 before)
 
   -- after that step there are still as many turns as any copy made steps
   pub paced : MayStep c l → (d : Copies) → steps_of d ≡ with_at (steps_of c.copies) l (suc (steps_of c.copies l)) → (j : ℕ) → steps_of d j ≤ c.turns

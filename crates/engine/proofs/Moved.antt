@@ -1,5 +1,6 @@
 -- From what a copy does by its plan to what the turn leaves and answers. Assumes nothing.
-use Rattle.std.proofs.Common.{◌≡◌, ℕ, suc, List, ℤ, Some, None, Option, sym, ap, ◌∙◌, subst, arith}
+use Rattle.std.proofs.Common.{◌≡◌, ℕ, suc, List, ℤ, Some, Option, sym, ap, ◌∙◌, subst}
+use Rattle.std.proofs.lemmas.Option.{none-some}
 use Rattle.copies.specs.Held.{copies_of, steps_of, tapes_of}
 use Rattle.meaning.specs.Answers.{turned, moved_at}
 use Rattle.meaning.specs.Visits.{Frame, State, Plan, go, lacks_value, lacks_space, ended, plan, counted, moving, picked}
@@ -7,16 +8,12 @@ use Rattle.meaning.specs.declared.answers.Act.{Act}
 use Rattle.engine.specs.Serves.{act_of, done}
 use Rattle.engine.specs.declared.visit.Course.{Course}
 
--- something is not nothing
-clash : (act : Act) → ◌≡◌ {A = Option Act} (Some act) None → ⊥
-clash act e = let z : ◌≡◌ {A = ℕ} 0 1 = cc in omega arith
-
 -- a copy that did something, after the turn was counted
 by_plan : (s : State) (l : ℕ) (p : Plan) (act : Act) (t : State) → Some act ≡ act_of p → t ≡ done (counted s) l p → (t ≡ (moving s l p).0) × (turned (moved_at l act) ≡ (moving s l p).1)
 by_plan s l (go a c) act t e after = let same : act ≡ a = cc in (after, ap (λ (x : Act). turned (moved_at l x)) same)
-by_plan s l (lacks_value k) act t e after = absurd (clash act e)
-by_plan s l (lacks_space k) act t e after = absurd (clash act e)
-by_plan s l ended act t e after = absurd (clash act e)
+by_plan s l (lacks_value k) act t e after = absurd (none-some act (sym e))
+by_plan s l (lacks_space k) act t e after = absurd (none-some act (sym e))
+by_plan s l ended act t e after = absurd (none-some act (sym e))
 
 -- the state of a course, with these lists of the host
 abbrev state : Course → (ℕ → List ℤ) → State

@@ -1,3 +1,2 @@
-pub mod Inward
 pub mod Late
 pub mod Told

@@ -1,12 +1,15 @@
 -- What a plain run holds, and what its calls answer. Assumes nothing.
-use Rattle.std.specs.Prelude.{ℕ, Bool, false, cond, List, [], map, ℤ, Some, None, Option, Ok, Err, Result, is_some, nat_lt, slice_index_or}
+use Rattle.std.specs.Prelude.{ℕ, Bool, false, List, [], map, ℤ, Some, None, Option, Result, is_some, nat_lt, slice_index_or}
+use Rattle.std.specs.Result.{result_and}
 use Rattle.refusal.specs.declared.Refusal.{Refusal}
-use Rattle.refusal.specs.declared.Refusal.TheVariants.{Channel, Direction}
+use Rattle.script.specs.Judging.{judging}
+use Rattle.script.specs.declared.parts.Direction.TheVariants.{In}
 use Rattle.copies.specs.Held.{copy_of, tape_of}
+use Rattle.copies.specs.declared.replica.Replica.{Replica}
 use Rattle.copies.specs.declared.tapes.Tape.{Tape}
 use Rattle.host.specs.Channels.{push_answer}
-use Rattle.meaning.specs.Copies.{Plain}
-use Rattle.meaning.specs.Programs.{Program, outward_at}
+use Rattle.meaning.specs.Copies.{InputValue, Plain, nth, plain_input}
+use Rattle.meaning.specs.Programs.{Program}
 use Rattle.preview.specs.declared.plain_run.PlainRun.{PlainRun}
 
 -- the values that a channel is given, by its list if it has one
@@ -29,18 +32,18 @@ given_of p = given_in p.lists
 abbrev pub lists_of : PlainRun → ℕ → List ℤ
 lists_of p = lists_in p.lists
 
--- the run whose copy is there, with these values written before
-abbrev pub run_of : PlainRun → (ℕ → List ℤ) → Plain
-run_of p w = record { copy = copy_of p.copy; written = w }
+-- a copy that runs, with these values written before
+abbrev pub plain_of : Replica → (ℕ → List ℤ) → Plain
+plain_of r w = record { copy = copy_of r; written = w }
 
--- what is answered about channel k, if it is an in channel of the script
-abbrev pub of_inward : Program → ℕ → Result (Unit {0}) Refusal → Result (Unit {0}) Refusal
-of_inward sc k r = cond (nat_lt k sc.channel_count) (cond (outward_at sc k) (Err Direction) r) (Err Channel)
+-- what an in from channel k with that list gives the copy
+abbrev pub input_in : Option Tape → Replica → ℕ → InputValue
+input_in l r k = plain_input (is_some l) (nat_lt ((copy_of r).positions k) 64) (nth (list_in l) ((copy_of r).positions k))
 
--- what a give answers
+-- what a give answers: whether channel k is an in channel of the script
 abbrev pub give_answer : Program → ℕ → Result (Unit {0}) Refusal
-give_answer sc k = of_inward sc k (Ok tt)
+give_answer sc k = judging In sc.channels sc.channel_count k
 
--- and an add: a list has 64 values at most
+-- and an add: whether it is, and whether its list has space, for 64 values at most
 abbrev pub add_answer : Program → (ℕ → List ℤ) → ℕ → Result (Unit {0}) Refusal
-add_answer sc list k = of_inward sc k (push_answer 64 (list k))
+add_answer sc list k = result_and (give_answer sc k) (push_answer 64 (list k))

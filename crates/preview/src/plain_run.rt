@@ -11,6 +11,7 @@ pub mod steps;
 pub struct PlainRun {
     script: Script,
     // The list of each channel; a channel without one is shut. No copy reads past 64 values, so longer lists need no place.
+    // An array, and no Vec: a plain run allocates nothing.
     lists: [Option<Tape>; 16],
     copy: Replica,
 }

@@ -2,7 +2,7 @@
 ghost use Rattle.std.specs.Prelude.{◌≡◌, ◌+◌, ◌<◌, ◌≤◌, ◌&&◌, true, false, nat_lt};
 ghost use Rattle.meaning.specs.Copies.{assign, first, further, go_on, go_to};
 ghost use Rattle.copies.specs.Computed.{computed, computes, targets};
-ghost use Rattle.copies.specs.Held.{copy_of, reads};
+ghost use Rattle.copies.specs.Held.{assigns, copy_of, reads};
 
 use crate::arithmetic::apply;
 use crate::replica::Replica;
@@ -42,16 +42,23 @@ impl Replica {
 
     // Is there the register, and a place after the copy's own?
     pub(crate) fn may_assign(&self, target: u8) -> bool
-        ensures { result ≡ (nat_lt target 16 && nat_lt (copy_of self.now).next 65535) }
+        ensures { result ≡ assigns (copy_of self.now) target }
     {
         target < 16 && self.next < u16::MAX
     }
 
     // Is there the channel, and a position after the copy's own?
-    pub(crate) fn may_go_further(&self, channel: u8) -> bool
+    fn may_go_further(&self, channel: u8) -> bool
         ensures { result ≡ (nat_lt channel 16 && nat_lt ((copy_of self.now).positions channel) 255) }
     {
         channel < 16 && self.position(channel) < u8::MAX
+    }
+
+    // Is there all that a read takes?
+    pub(crate) fn may_read(&self, target: u8, channel: u8) -> bool
+        ensures { result ≡ reads (copy_of self.now) target channel }
+    {
+        self.may_assign(target) && self.may_go_further(channel)
     }
 
     pub fn go_to(&mut self, next: u16)
@@ -98,7 +105,7 @@ impl Replica {
         ensures done { target < 16 → (copy_of self.old).next < 65535 → channel < 16 → (copy_of self.old).positions channel < 255 → copy_of self.new ≡ assign (further (copy_of self.old) channel) target value }
         ensures kept { reads (copy_of self.old) target channel ≡ false → self.new ≡ self.old }
     {
-        if self.may_assign(target) && self.may_go_further(channel) {
+        if self.may_read(target, channel) {
             self.further(channel);
             self.assign(target, value);
         }
@@ -109,13 +116,8 @@ impl Replica {
         ensures { result ≡ computes (copy_of self.now) instruction }
     {
         match instruction {
-            Instruction::Set { target, number: _ }
-            | Instruction::Compute {
-                operation: _,
-                target,
-                first: _,
-                second: _,
-            } => self.may_assign(target),
+            Instruction::Set { target, .. } | Instruction::Compute { target, .. } =>
+                self.may_assign(target),
             _ => self.next < u16::MAX,
         }
     }
@@ -147,14 +149,7 @@ impl Replica {
                     self.go_to(place);
                 }
             }
-            Instruction::Input {
-                target: _,
-                channel: _,
-            }
-            | Instruction::Output {
-                first: _,
-                channel: _,
-            } => {}
+            Instruction::Input { .. } | Instruction::Output { .. } => {}
             Instruction::Stop => self.go_to(end),
         }
     }

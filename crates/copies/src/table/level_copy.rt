@@ -8,6 +8,8 @@ use crate::replica::Replica;
 use crate::table::LevelCopy;
 use script::parts::Instruction;
 
+// Four calls of one form, each with another test and another step: one function over them would take both as closures, and
+// its contract would be longer than they are.
 impl LevelCopy {
     // A copy as it begins, and no step done.
     pub(crate) fn first() -> LevelCopy
@@ -54,7 +56,7 @@ impl LevelCopy {
         ensures done { can_read self.old target channel ≡ true → Moved self.old self.new (assign (further (copy_in self.old) channel) target value) }
         ensures kept { can_read self.old target channel ≡ false → self.new ≡ self.old }
     {
-        if self.can_step() && self.copy.may_assign(target) && self.copy.may_go_further(channel) {
+        if self.can_step() && self.copy.may_read(target, channel) {
             self.copy.read(target, channel, value);
             self.steps += 1;
         }

@@ -8,7 +8,9 @@ use crate::table::{Copies, LevelCopy};
 use script::parts::Instruction;
 
 // Copies are asked and changed where they stand: to copy one out and store it back costs more than a turn does. They are
-// changed by `copies[level]`, since of an array that was lent by `get_mut` no more is known than its length.
+// changed by `copies[level]`, since of an array that was lent by `get_mut` no more is known than its length. One function
+// for the four tests of a level would take the step as a closure, and its contract (what may be called, what that leaves,
+// that the others stay) be longer than the tests. What a step takes are fields of an instruction, another set in each.
 impl Copies {
     // Every copy as it begins, and no step done.
     pub fn new() -> Copies

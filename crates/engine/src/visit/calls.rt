@@ -18,6 +18,8 @@ use script::parts::Direction;
 // How many turns a visit has.
 const TURNS: u32 = 1_000_000;
 
+// That a refusal leaves the whole visit as it was is said of each call for itself: it is about the visit before and after,
+// and an invariant speaks of one alone.
 impl<R: Regime, H: Host> Visit<R, H> {
     // A visit as it begins: every copy at instruction 0, every tape empty. What is promised of visits holds of every log of
     // calls from here on.
@@ -44,7 +46,7 @@ impl<R: Regime, H: Host> Visit<R, H> {
         if self.script.levels != self.regime.levels() {
             return Err(Refusal::Levels);
         }
-        if (self.host.count() as usize) < self.script.channel_count {
+        if usize::from(self.host.count()) < self.script.channel_count {
             return Err(Refusal::Channels);
         }
         Ok(())

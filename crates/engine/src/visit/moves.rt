@@ -18,6 +18,9 @@ use meaning::answers::{Act, Moved};
 use regime::rules::Regime;
 use script::parts::Instruction;
 
+// What they may rely on is asked by a word each (Running, Port, Fits). None is an invariant of a visit: one that does not
+// fit is a visit too, and refuses. A struct for them would have to lend the visit. Level, target and channel go side by
+// side, as they come from the pick and from an instruction's own fields, another set in each.
 impl<R: Regime, H: Host> Visit<R, H> {
     // Where an in of the copy at the level gets its value.
     pub(crate) fn source(&self, level: u8, channel: u8) -> Source

@@ -23,7 +23,8 @@ impl<R: Regime, H: Host> Visit<R, H> {
         self.script.channels[channel as usize].level
     }
 
-    // Does the host hold a value on the channel?
+    // Does the host hold a value on the channel? This and the next ask the host two questions; what they share is std's
+    // `is_ok_and`.
     #[tactic(auto, using(crate::proofs::Hosted::some_held))]
     fn holds(&self, channel: u8) -> bool
         requires { Port H.Host.channels self.now channel }
@@ -84,7 +85,8 @@ impl<R: Regime, H: Host> Visit<R, H> {
         self.status(level) == Status::Ready
     }
 
-    // The levels whose copies are ready; each is asked once. A loop that inserts, since `collect` takes an allocator.
+    // The levels whose copies are ready; each is asked once. A loop that inserts: `collect` takes an allocator, and `filter`
+    // and `fold`, which are as long, leave open what they give.
     fn ready(&self) -> ReadySet
         requires { Fits R.Regime.order H.Host.channels self.now }
         ensures { members result ≡ ready_levels (frame_of R.Regime.order H.Host.channels self.now) (state_of H.Host.channels self.now) }

@@ -52,6 +52,8 @@ fn put(lists: &mut [Option<Tape>; 16], channel: u8, list: Tape)
     lists[channel as usize] = Some(list);
 }
 
+// That the script stays, and that a refusal changes nothing, is said of each call for itself: no invariant can say it,
+// since one speaks of a run and not of the run before.
 impl PlainRun {
     // A run as it begins, with every in channel shut.
     pub fn new(script: Script) -> PlainRun

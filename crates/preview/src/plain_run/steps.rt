@@ -1,10 +1,10 @@
 // One step.
-ghost use Rattle.std.specs.Prelude.{◌≡◌, ℕ, ◌<◌, List, ℤ, is_some, nat_lt};
+ghost use Rattle.std.specs.Prelude.{◌≡◌, ℕ, ◌<◌, List, ℤ};
 ghost use Rattle.copies.specs.Held.{copy_of};
-ghost use Rattle.meaning.specs.Copies.{nth, plain_input, plain_read, plain_write};
+ghost use Rattle.meaning.specs.Copies.{plain_read, plain_write};
 ghost use Rattle.meaning.specs.Programs.{program};
 ghost use Rattle.preview.specs.Acts.{Stepped, did_read, written_after};
-ghost use Rattle.preview.specs.Views.{given_of, list_in, lists_of};
+ghost use Rattle.preview.specs.Views.{given_of, input_in, lists_of, plain_of};
 ghost use Rattle.preview.specs.declared.acts.Did.TheVariants.{Wrote};
 
 use crate::acts::Did;
@@ -18,8 +18,8 @@ fn read(list: Option<Tape>, copy: &mut Replica, target: u8, channel: u8) -> Did
     requires register { target < 16 }
     requires port { channel < 16 }
     requires running { (copy_of copy.old).next < 65535 }
-    ensures told { result ≡ did_read channel (plain_input (is_some list) (nat_lt ((copy_of copy.old).positions channel) 64) (nth (list_in list) ((copy_of copy.old).positions channel))) }
-    ensures after { (w : ℕ → List ℤ) → record { copy = copy_of copy.new; written = written_after result w } ≡ plain_read (record { copy = copy_of copy.old; written = w }) target channel (plain_input (is_some list) (nat_lt ((copy_of copy.old).positions channel) 64) (nth (list_in list) ((copy_of copy.old).positions channel))) }
+    ensures told { result ≡ did_read channel (input_in list copy.old channel) }
+    ensures after { (w : ℕ → List ℤ) → plain_of copy.new (written_after result w) ≡ plain_read (plain_of copy.old w) target channel (input_in list copy.old channel) }
 {
     let position = copy.position(channel);
     match list {
@@ -41,7 +41,7 @@ fn read(list: Option<Tape>, copy: &mut Replica, target: u8, channel: u8) -> Did
 fn write(copy: &mut Replica, first: u8, channel: u8) -> Did
     requires { (copy_of copy.old).next < 65535 }
     ensures told { result ≡ Wrote channel ((copy_of copy.old).registers first) }
-    ensures after { (w : ℕ → List ℤ) → record { copy = copy_of copy.new; written = written_after result w } ≡ plain_write (record { copy = copy_of copy.old; written = w }) channel ((copy_of copy.old).registers first) }
+    ensures after { (w : ℕ → List ℤ) → plain_of copy.new (written_after result w) ≡ plain_write (plain_of copy.old w) channel ((copy_of copy.old).registers first) }
 {
     let value = copy.register(first);
     copy.go_on();
