@@ -14,7 +14,7 @@ use reader::file::read_script;
 use refusal::{Fault, Refusal};
 use script::accepted::Script;
 
-// What the calls of the lesson answered, in their order.
+// What the calls of the lesson answered, in their order: so many calls, each with its answer in its place.
 pub struct Lesson {
     pub fed: [Result<(), Refusal>; 2],
     pub turns: [Result<Option<Moved>, Refusal>; 9],

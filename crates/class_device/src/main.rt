@@ -1,4 +1,5 @@
-// A maker's main loop over the package Class: a book for a family, with levels in compartments.
+// A maker's main loop over the package Class: a book for a family, with levels in compartments. It stands alone, as a maker's
+// would: what it has in common with the loop over Page is written again.
 #![tactic(auto)]
 
 use class::compartments::Compartments;

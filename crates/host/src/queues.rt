@@ -34,19 +34,10 @@ pub trait ChannelQueue {
         ensures refused { IfRefused result (self.new ≡ self.old) };
 }
 
-// Where the channel's queue stands, for put and take: they index it then, since of a slice that `get_mut` lent no more is
-// known than its length.
-fn place<Q>(queues: &[Q], channel: u8) -> Result<usize, Refusal>
-    ensures { MatchResult result (λ i. (i ≡ channel) × (channel < length queues.now)) (λ e. (e ≡ Channel) × (length queues.now ≤ channel)) }
-{
-    if channel as usize >= queues.len() {
-        return Err(Refusal::Channel);
-    }
-    Ok(channel as usize)
-}
-
+// Below, the row stands first in each function, as `self` would: it is an array or a `Vec`, so no type of ours. Where no
+// capacity matters, a clause takes 0 for the channels that there are not.
 pub fn held<Q: ChannelQueue>(queues: &[Q], channel: u8) -> Result<usize, Refusal>
-    ensures { (k : ℕ) → result ≡ stored (queued Q.list Q.capacity k queues.now) channel }
+    ensures { result ≡ stored (queued Q.list Q.capacity 0 queues.now) channel }
 {
     let queue = queues.get(channel as usize).ok_or(Refusal::Channel)?;
     Ok(queue.len())
@@ -59,20 +50,49 @@ pub fn space<Q: ChannelQueue>(queues: &[Q], channel: u8) -> Result<usize, Refusa
     Ok(queue.space())
 }
 
+// Where the channel's queue stands. Put and take index it, since of a slice that `get_mut` lent no more is known than its
+// length.
+fn place<Q>(queues: &[Q], channel: u8) -> Result<usize, Refusal>
+    ensures { MatchResult result (λ i. (i ≡ channel) × (channel < length queues.now)) (λ e. (e ≡ Channel) × (length queues.now ≤ channel)) }
+{
+    if channel as usize >= queues.len() {
+        return Err(Refusal::Channel);
+    }
+    Ok(channel as usize)
+}
+
 pub fn put<Q: ChannelQueue>(queues: &mut [Q], channel: u8, value: i32) -> Result<(), Refusal>
     ensures answer { (k : ℕ) → result ≡ put_answer (queued Q.list Q.capacity k queues.old) channel }
     ensures after { (k : ℕ) → queued Q.list Q.capacity k queues.new ≡ after_put (queued Q.list Q.capacity k queues.old) channel value }
     ensures refused { IfRefused result (queues.new ≡ queues.old) }
 {
     let at = place(queues, channel)?;
+    put_at(queues, at, value)
+}
+
+fn put_at<Q: ChannelQueue>(queues: &mut [Q], at: usize, value: i32) -> Result<(), Refusal>
+    requires { at < length queues.old }
+    ensures answer { (k : ℕ) → result ≡ put_answer (queued Q.list Q.capacity k queues.old) at }
+    ensures after { (k : ℕ) → queued Q.list Q.capacity k queues.new ≡ after_put (queued Q.list Q.capacity k queues.old) at value }
+    ensures refused { IfRefused result (queues.new ≡ queues.old) }
+{
     queues[at].push(value)
 }
 
 pub fn take<Q: ChannelQueue>(queues: &mut [Q], channel: u8) -> Result<i32, Refusal>
-    ensures answer { (k : ℕ) → result ≡ take_answer (queued Q.list Q.capacity k queues.old) channel }
+    ensures answer { result ≡ take_answer (queued Q.list Q.capacity 0 queues.old) channel }
     ensures after { (k : ℕ) → queued Q.list Q.capacity k queues.new ≡ after_take (queued Q.list Q.capacity k queues.old) channel }
     ensures refused { IfRefused result (queues.new ≡ queues.old) }
 {
     let at = place(queues, channel)?;
+    take_at(queues, at)
+}
+
+fn take_at<Q: ChannelQueue>(queues: &mut [Q], at: usize) -> Result<i32, Refusal>
+    requires { at < length queues.old }
+    ensures answer { result ≡ take_answer (queued Q.list Q.capacity 0 queues.old) at }
+    ensures after { (k : ℕ) → queued Q.list Q.capacity k queues.new ≡ after_take (queued Q.list Q.capacity k queues.old) at }
+    ensures refused { IfRefused result (queues.new ≡ queues.old) }
+{
     queues[at].pop()
 }

@@ -1,5 +1,5 @@
-// Any of the three regimes: for programs that are told the kind of levels only when they run. An enum, since a `dyn` is
-// never handed out.
+// Any of the three regimes: for programs that are told the kind of levels only when they run. An enum and a match in each
+// call, since nothing hands out a `dyn`.
 ghost use Rattle.house.specs.AnyOrder.{any_lawful, order_of};
 
 use crate::order_map::OrderMap;

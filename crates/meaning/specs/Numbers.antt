@@ -14,15 +14,6 @@ act_number (Wrote k v) = 4
 act_number (Withheld k v) = 5
 
 -- the channel and the value, in all but inner
-abbrev pub act_values : Act → List ℤ
-act_values Inner = []
-act_values (Took k v) = pos k ∷ v ∷ []
-act_values (Reused k v) = pos k ∷ v ∷ []
-act_values (Defaulted k v) = pos k ∷ v ∷ []
-act_values (Wrote k v) = pos k ∷ v ∷ []
-act_values (Withheld k v) = pos k ∷ v ∷ []
-
--- the same, as a pair
 abbrev pub carried : Act → Option (ℕ × ℤ)
 carried Inner = None
 carried (Took k v) = Some (k, v)
@@ -30,6 +21,14 @@ carried (Reused k v) = Some (k, v)
 carried (Defaulted k v) = Some (k, v)
 carried (Wrote k v) = Some (k, v)
 carried (Withheld k v) = Some (k, v)
+
+-- the same, as a list
+abbrev pub both_of : Option (ℕ × ℤ) → List ℤ
+both_of None = []
+both_of (Some p) = pos p.0 ∷ p.1 ∷ []
+
+abbrev pub act_values : Act → List ℤ
+act_values a = both_of (carried a)
 
 abbrev pub status_number : Status → ℕ
 status_number Ready = 0

@@ -20,7 +20,8 @@ pub enum Act {
 }
 
 impl Act {
-    // The number by which documents and programs call it.
+    // The number by which documents and programs call it: by a method, which says what the number is. Cases that carry
+    // something have no `as u8`.
     pub fn number(self) -> u8
         ensures { result ≡ act_number self }
     {
@@ -66,7 +67,7 @@ pub enum Status {
 }
 
 impl Status {
-    // The number by which documents and programs call it.
+    // The number by which documents and programs call it: by a method, as an act's.
     pub fn number(self) -> u8
         ensures { result ≡ status_number self }
     {

@@ -5,7 +5,8 @@ pub mod calls;
 mod ends;
 
 // One channel: the first `len` values count, oldest first. An array with its length beside it, since the host is `Copy`
-// and allocates nothing, and its size in bytes is part of what is sold.
+// and allocates nothing, and its size in bytes is part of what is sold: a tape of a visit has the same form, but 64 places
+// and a length of one byte.
 #[derive(Clone, Copy)]
 pub struct Queue {
     values: [i32; 32],

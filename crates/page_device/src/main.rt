@@ -19,6 +19,7 @@ const TURNS: u32 = 10;
 
 type Lesson = Visit<Ladder, SlotHost>;
 
+// A turn that moved nobody is nothing to tell.
 fn tell_move(rt: &HostRuntime, turned: Result<Option<Moved>, Refusal>) -> io::Result<()> {
     match turned {
         Ok(Some(Moved { level, act })) => println!(rt; "level {level}: act {}", act.number()),
@@ -42,12 +43,11 @@ fn teach(rt: &HostRuntime, script: Script) -> io::Result<()> {
     for (channel, value) in DAY {
         serve(rt, &mut visit, channel, value)?;
     }
-    // The report is sent on until there is no more of it.
+    // The report is sent on until there is no more of it. A channel holds at most 32 values: a `while` would have to show
+    // that it ends.
     for _ in 0..32 {
-        match visit.collect(3) {
-            Ok(value) => println!(rt; "report: {value}")?,
-            Err(_) => return Ok(()),
-        }
+        let Ok(value) = visit.collect(3) else { break };
+        println!(rt; "report: {value}")?;
     }
     Ok(())
 }

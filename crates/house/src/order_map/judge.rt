@@ -4,7 +4,8 @@ ghost use Rattle.regime.specs.Order.{Partial};
 ghost use Rattle.class.specs.Compartments.{bit};
 ghost use Rattle.house.specs.Rows.{Clear, Itself, OneWay, OneWayFrom, Onward, OnwardFrom, OnwardThrough, RowClear, told};
 
-// Levels and which flows to which: bit a of row b says that level a flows to level b.
+// Levels and which flows to which: bit a of row b says that level a flows to level b. A row for each level that there can
+// be, since the order map that holds them is `Copy` and allocates nothing.
 #[derive(Clone, Copy)]
 pub(crate) struct Table {
     pub(crate) levels: u8,
@@ -46,20 +47,36 @@ impl Table {
         (0..16).all(|b| self.is_row_clear(b))
     }
 
+    // The three laws of order follow. Each is one line for each level that it speaks of, by another test: one function over
+    // a test that is passed would be no shorter. Each depth is a method: the outer `all` is proved from its contract, and a
+    // closure within a closure would have none. The levels stand side by side, since a law is about as many.
+    fn flows_to_itself(&self, a: u8) -> bool
+        requires { a < 16 }
+        ensures { Decides result (told self.now.rows a a ≡ true) }
+    {
+        self.tells(a, a)
+    }
+
     // Each level flows to itself.
     fn is_reflexive(&self) -> bool
         ensures { Decides result (Itself self.now.levels self.now.rows) }
     {
-        (0..self.levels).all(|a| self.tells(a, a))
+        (0..self.levels).all(|a| self.flows_to_itself(a))
     }
 
-    // Does level `a` flow both ways with no other level? Each depth is a method, here and below: the outer `all` is
-    // proved from its contract, and a closure within a closure would have none.
+    fn is_one_way_between(&self, a: u8, b: u8) -> bool
+        requires { (a < 16) × (b < 16) }
+        ensures { Decides result (told self.now.rows a b ≡ true → told self.now.rows b a ≡ true → a ≡ b) }
+    {
+        a == b || !(self.tells(a, b) && self.tells(b, a))
+    }
+
+    // Does level `a` flow both ways with no other level?
     fn is_one_way_from(&self, a: u8) -> bool
         requires { a < self.now.levels }
         ensures { Decides result (OneWayFrom self.now.levels self.now.rows a) }
     {
-        (0..self.levels).all(|b| a == b || !(self.tells(a, b) && self.tells(b, a)))
+        (0..self.levels).all(|b| self.is_one_way_between(a, b))
     }
 
     // No two different levels flow both ways.
@@ -69,12 +86,19 @@ impl Table {
         (0..self.levels).all(|a| self.is_one_way_from(a))
     }
 
+    fn flows_on(&self, a: u8, b: u8, c: u8) -> bool
+        requires { (a < 16) × (b < 16) × (c < 16) }
+        ensures { Decides result (told self.now.rows a b ≡ true → told self.now.rows b c ≡ true → told self.now.rows a c ≡ true) }
+    {
+        !(self.tells(a, b) && self.tells(b, c)) || self.tells(a, c)
+    }
+
     // Does level `a` flow to all that `b` flows to, if it flows to `b`?
     fn flows_on_through(&self, a: u8, b: u8) -> bool
         requires { (a < self.now.levels) × (b < self.now.levels) }
         ensures { Decides result (OnwardThrough self.now.levels self.now.rows a b) }
     {
-        (0..self.levels).all(|c| !(self.tells(a, b) && self.tells(b, c)) || self.tells(a, c))
+        (0..self.levels).all(|c| self.flows_on(a, b, c))
     }
 
     // The same through every level.

@@ -18,7 +18,7 @@ pub enum Unmade {
     Memory,
 }
 
-// By hand, since clauses name what `?` makes of want of memory.
+// By hand, since clauses name what `?` makes of want of memory: a derived `From` has no clause.
 impl From<AllocError> for Unmade {
     ghost from_gives = { λ _ r. r ≡ Memory };
 
@@ -45,6 +45,7 @@ impl HeapHost {
     }
 
     // One channel more, which begins with these values, even with more than the capacity allows.
+    #[tactic(auto, using(crate::proofs::Laned::grows))]
     pub fn add(&mut self, heap: Global, capacity: usize, values: &[i32]) -> Result<(), Unmade>
         ensures answer { Told (channels_of self.old).count capacity result }
         ensures after { channels_of self.new ≡ after_add (channels_of self.old) capacity values.now result }

@@ -9,6 +9,8 @@ use host::calls::Host;
 use host::queues;
 use refusal::Refusal;
 
+// Each call is one line, as in the slot host. One impl for both would be over a trait that lends the row, and a maker would
+// have to show more of the row that it lends than is written here.
 impl Host for HeapHost {
     ghost channels = { channels_of };
 

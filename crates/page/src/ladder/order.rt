@@ -19,6 +19,7 @@ fn rungs_for(n: u8) -> u8
 
 impl Ladder {
     // A ladder of `n` levels, or of the nearest number from 1 to 16.
+    #[tactic(auto, using(crate::specs::Rungs::picks_lowest))]
     pub fn new(n: u8) -> Ladder
         ensures order { order_of result ≡ rungs (nearest 1 16 n) }
         ensures meaning { PicksLowest (nearest 1 16 n) (order_of result) }

@@ -19,6 +19,8 @@ impl SlotHost {
     }
 }
 
+// Each call is one line, as in the example of a maker's own host. One impl for both would be over a trait that lends the
+// row, and each would have to show more of the row that it lends than is written here.
 impl Host for SlotHost {
     ghost channels = { channels_of };
 
