@@ -14,19 +14,6 @@ module _ (s : Site) (w : ℕ) (ws : List ℕ) (m : ℕ) (bs : List ℕ) (b : Boo
   pub fields_more : (f : Field) (r : List ℕ) (fs : List Field) (e : List ℕ) → read_field s w b bs ≡ Ok (f, r) → read_fields s ws (m / 2) r ≡ Ok (fs, e) → read_fields s (w ∷ ws) m bs ≡ Ok (f ∷ fs, e)
   fields_more f r fs e p q = simp (sym is, p, q)
 
-  pub fields_here : (g : Fault) → read_field s w b bs ≡ Err g → read_fields s (w ∷ ws) m bs ≡ Err g
-  fields_here g p = simp (sym is, p)
-
-  pub fields_later : (f : Field) (r : List ℕ) (g : Fault) → read_field s w b bs ≡ Ok (f, r) → read_fields s ws (m / 2) r ≡ Err g → read_fields s (w ∷ ws) m bs ≡ Err g
-  fields_later f r g p q = simp (sym is, p, q)
-
--- the first broken rule
-pub kept : (r : Rule) (rs : List Rule) → r.kept ≡ true → broken (r ∷ rs) ≡ broken rs
-kept r rs e = cond-true _ _ _ e
-
-pub breaks : (r : Rule) (rs : List Rule) → r.kept ≡ false → broken (r ∷ rs) ≡ Some r.else
-breaks r rs e = cond-false _ _ _ e
-
 pub refused : {X : Type 0} (r : Result X Fault) (o : Option Fault) (x : X) (f : Fault) → r ≡ unless o x → o ≡ Some f → r ≡ Err f
 refused r o x f e d = e ∙ ap (λ o. unless o x) d
 
@@ -60,9 +47,6 @@ module _ {X : Type 0} (ws : List ℕ) (rules : Site → List Field → List Rule
 
   pub record_made : (s : Site) (bs : List ℕ) (fs : List Field) (r : List ℕ) → 1 ≤ length bs → get_or bs 0 0 < 2 ^ length ws → read_fields s ws (get_or bs 0 0) (take (length bs - 1) (drop 1 bs)) ≡ Ok (fs, r) → read_record ws rules make s bs ≡ unless (broken (map (not_zero s) fs ++ rules s fs)) (make fs, r)
   record_made s bs fs r h lt e = record_body s bs h ∙ cond-true _ _ _ (lt-ltb _ _ lt) ∙ ap (λ x. and_then x (λ x. unless (broken (map (not_zero s) x.0 ++ rules s x.0)) (make x.0, x.1))) e
-
-  pub record_stops : (s : Site) (bs : List ℕ) (g : Fault) → 1 ≤ length bs → get_or bs 0 0 < 2 ^ length ws → read_fields s ws (get_or bs 0 0) (take (length bs - 1) (drop 1 bs)) ≡ Err g → read_record ws rules make s bs ≡ Err g
-  record_stops s bs g h lt e = record_body s bs h ∙ cond-true _ _ _ (lt-ltb _ _ lt) ∙ ap (λ x. and_then x (λ x. unless (broken (map (not_zero s) x.0 ++ rules s x.0)) (make x.0, x.1))) e
 
 pub bit_is : (k m : ℕ) → odd (m / 2 ^ k) ≡ bit k m
 bit_is zero m = ap odd (div-one m)

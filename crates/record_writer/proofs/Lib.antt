@@ -1,3 +1,2 @@
-pub mod Appended
 pub mod Fields
 pub mod Lengths

@@ -1,5 +1,5 @@
 -- The file of a script piece by piece. Assumes nothing.
-use Rattle.std.proofs.Common.{◌≡◌, ℕ, ◌+◌, List, [], ◌∷◌, ◌++◌, length, drop, sym, refl, ap, ◌∙◌, append_assoc, zero-add, arith, length-append}
+use Rattle.std.proofs.Common.{◌≡◌, ℕ, List, [], ◌∷◌, ◌++◌, length, drop, sym, ap, ◌∙◌, append_assoc, zero-add}
 use Rattle.std.specs.List.{flat_map}
 use Rattle.script.specs.declared.accepted.Script.{Script}
 use Rattle.script.specs.declared.parts.Channel.{Channel}
@@ -26,12 +26,6 @@ module _ (s : Script) (cs : List Channel) (is : List Instruction) (ec : cs ≡ (
       ∙ ap (λ l. s.levels ∷ length (model_of s).channels ∷ (flat_map encode_channel l ++ (m ++ instructions))) ec
       ∙ ap (λ l. s.levels ∷ length (model_of s).channels ∷ (flat_map encode_channel (model_of s).channels ++ (l ++ instructions))) (em ∙ ap (bytes_of 2) (sym (instructions_held s)))
       ∙ ap (λ l. s.levels ∷ length (model_of s).channels ∷ (flat_map encode_channel (model_of s).channels ++ (bytes_of 2 (length (model_of s).instructions) ++ flat_map encode_instruction l))) ei
-
-  -- how long they are together
-  pub sizes : length (encode s) ≡ 4 + length channels + length instructions
-  sizes =
-      let m = bytes_of 2 s.instruction_count in
-      omega (arith, ap length (pieces m refl), length-append (((s.levels ∷ s.channel_count ∷ []) ++ channels) ++ m) instructions, length-append ((s.levels ∷ s.channel_count ∷ []) ++ channels) m, length-append (s.levels ∷ s.channel_count ∷ []) channels)
 
 -- what is written from the front on
 pub from_front : (bytes old : List ℕ) → written 0 bytes old ≡ bytes ++ drop (length bytes) old

@@ -1,28 +1,10 @@
-use Rattle.std.proofs.Common.{◌≡◌, ◌≤◌, [], ◌∷◌, ◌++◌, length, refl, ◌∙◌, subst, arith, rules}
+use Rattle.std.proofs.Common.{◌≡◌, ◌≤◌, [], ◌∷◌, ◌++◌, length, ◌∙◌, subst, arith, rules}
 use Rattle.std.specs.List.{flat_map}
-use Rattle.script.specs.Model.{model_of}
 use Rattle.format.specs.Numbers.{bytes_of}
 use Rattle.format.specs.Encoding.{encode, encode_channel, encode_instruction}
 use Rattle.writer.proofs.Puts.{Sofar, sofar_more}
-use Rattle.writer.proofs.Stages.{pieces, sizes, from_front}
+use Rattle.writer.proofs.Stages.{pieces, from_front}
 use Rattle.writer.proofs.file.write_script.Goals as goal
-
-pub put_records-at-requires : goal.put_records-at-requires
-put_records-at-requires c =
-    let s = c.args.script.now in
-    let size = sizes s c.channels.result.now (model_of s).instructions c.channels.ensures refl in
-    omega (arith, size, c.encoded_length.ensures, c.put-at.ensures.end)
-
-pub put-at-requires-2 : goal.put-at-requires-2
-put-at-requires-2 c =
-    let s = c.args.script.now in
-    let size = sizes s c.channels.result.now (model_of s).instructions c.channels.ensures refl in
-    omega (arith, size, c.encoded_length.ensures, c.put-at.ensures.end, c.put_records-at.ensures.end)
-
-pub put_records-requires : goal.put_records-requires
-put_records-requires c =
-    let size = sizes c.args.script.now c.channels.result.now c.instructions.result.now c.channels.ensures c.instructions.ensures in
-    omega (arith, size, c.encoded_length.ensures, c.put-at.ensures.end, c.put_records-at.ensures.end, c.put-at-2.ensures.end)
 
 pub returns : goal.returns
 returns c =

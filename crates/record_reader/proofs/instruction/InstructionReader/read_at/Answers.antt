@@ -4,16 +4,9 @@ use Rattle.format.specs.Encoding.{instruction_widths}
 use Rattle.format.specs.Rules.{broken, not_zero, instruction_rules}
 use Rattle.format.specs.Reading.{unless, read_record, instruction_of}
 use Rattle.record_reader.specs.Listed.{listed}
-use Rattle.format.proofs.Steps.{refused, passed, record_made, record_stops}
+use Rattle.format.proofs.Steps.{refused, passed, record_made}
 use Rattle.record_reader.proofs.instruction.InstructionReader.read_at.Goals as goal
 use Rattle.record_reader.proofs.instruction.InstructionReader.read_at.Goals.{In_ok-fields}
-
-pub returns-in_err-fields : goal.returns-in_err-fields
-returns-in_err-fields c =
-    let p = err_from_is_err_and c.from_residual.result c.from_residual.ensures.1 in
-    let long : 1 ≤ length c.args.bytes.now = search rules in
-    let small : get_or c.args.bytes.now 0 0 < 128 = search rules in
-    rw (p.1, p.2) (record { shrinks = tt; is = record_stops instruction_widths (instruction_rules c.args.self.channels.now c.args.self.count) instruction_of _ _ _ long small c.in_err-fields.ensures.is })
 
 -- the fields are read
 parsed : (c : In_ok-fields) →
@@ -25,10 +18,10 @@ parsed c =
     let small : get_or c.args.bytes.now 0 0 < 128 = search rules in
     record_made instruction_widths (instruction_rules c.args.self.channels.now c.args.self.count) instruction_of _ _ (listed c.in_ok-fields.fields) c.in_ok-fields.rest.now long small c.in_ok-fields.ensures.is
 
-pub returns-in_err-kind : goal.returns-in_err-kind
-returns-in_err-kind c =
+pub returns-in_err-kind-clause-is : goal.returns-in_err-kind-clause-is
+returns-in_err-kind-clause-is c =
     let p = err_from_is_err_and c.from_residual-in_err-kind.result c.from_residual-in_err-kind.ensures.1 in
-    rw (p.1, p.2) (record { shrinks = tt; is = refused _ _ _ _ (parsed (goal.at.returns-in_err-kind c).In_ok-fields) c.in_err-kind.ensures.keeps })
+    rw (p.1, p.2) (refused _ _ _ _ (parsed (goal.at.returns-in_err-kind-clause-is c).In_ok-fields) c.in_err-kind.ensures.keeps)
 
-pub returns : goal.returns
-returns c = record { shrinks = search rules; is = passed _ _ _ _ (parsed (goal.at.returns c).In_ok-fields) c.in_ok-kind.ensures.keeps (ap (λ i. (i, c.in_ok-fields.rest.now)) (sym c.instruction_from.ensures)) }
+pub returns-clause-is : goal.returns-clause-is
+returns-clause-is c = passed _ _ _ _ (parsed (goal.at.returns-clause-is c).In_ok-fields) c.in_ok-kind.ensures.keeps (ap (λ i. (i, c.in_ok-fields.rest.now)) (sym c.instruction_from.ensures))
