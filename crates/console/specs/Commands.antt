@@ -1,5 +1,5 @@
 -- What the words of a line ask for. Assumes nothing.
-use Rattle.std.specs.Prelude.{ℕ, Bool, false, cond, List, [], ◌∷◌, ℤ, Some, None, Ok, Err, vec_items, Option, Result, ◌==◌}
+use Rattle.std.specs.Prelude.{ℕ, List, ℤ, Some, None, Ok, Err, vec_items, Option, Result}
 use Rattle.std.specs.Option.{ok_or}
 use Rattle.console.specs.declared.command.Command.{Command}
 use Rattle.console.specs.declared.command.Command.TheVariants as command
@@ -12,7 +12,8 @@ use Rattle.verb.specs.declared.Shape.TheVariants as shape
 use Rattle.verb.specs.declared.Verb.{Verb}
 use Rattle.verb.specs.declared.Verb.TheVariants as verb
 use Rattle.text.specs.Answers.{then}
-use Rattle.text.specs.Arguments.{bytes_of, count_of, mask_of, room_of, row_of, capacity_of, value_of, entries_from, table_from, taken, ended}
+use Rattle.text.specs.Arguments.{bytes_of, count_of, mask_of, room_of, row_of, capacity_of, value_of, entries_from, table_from, taken}
+use Rattle.text.specs.Lines.{line_asked}
 use Rattle.verb.specs.Verbs.{host_of, shape_of, verb_of}
 use Rattle.text.specs.Words.{words_of}
 
@@ -80,7 +81,7 @@ by_shape shape.Compartments ws = of_number compartments ws
 by_shape shape.Map ws = of_number_and (table_from row_of 16) map ws
 
 abbrev pub levels_asked : List (List ℕ) → Result (Request × List (List ℕ)) LineError
-levels_asked ws = then (taken shape_of ws) (λ p. by_shape p.0 p.1)
+levels_asked ws = then (taken (λ w. ok_or (shape_of w) error.Shape) ws) (λ p. by_shape p.0 p.1)
 
 -- a host of each kind
 abbrev pub by_kind : HostKind → List (List ℕ) → Result (Request × List (List ℕ)) LineError
@@ -108,19 +109,14 @@ asked verb.Held ws = of_number held ws
 asked verb.Space ws = of_number space ws
 asked verb.Help ws = Ok (help, ws)
 
--- a line that begins with # is for people
-abbrev pub comment : List ℕ → Bool
-comment [] = false
-comment (c ∷ cs) = c == 35
+-- the same by the command's name
+abbrev pub by_verb : Option Verb → List (List ℕ) → Result (Request × List (List ℕ)) LineError
+by_verb None ws = Err error.Unknown
+by_verb (Some v) ws = asked v ws
 
-abbrev pub by_name : Option Verb → List (List ℕ) → Result (Option Request) LineError
-by_name None ws = Err error.Unknown
-by_name (Some v) ws = then (asked v ws) (λ p. then (ended p.1) (λ _. Ok (Some p.0)))
-
-abbrev pub requested : List (List ℕ) → Result (Option Request) LineError
-requested [] = Ok None
-requested (name ∷ ws) = cond (comment name) (Ok None) (by_name (verb_of name) ws)
+abbrev pub named : List ℕ → List (List ℕ) → Result (Request × List (List ℕ)) LineError
+named name = by_verb (verb_of name)
 
 -- what a line asks for
 abbrev pub request_of : List ℕ → Result (Option Request) LineError
-request_of line = requested (words_of line)
+request_of line = line_asked named (words_of line)

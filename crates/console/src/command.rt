@@ -1,13 +1,13 @@
 // The commands, and the lines that give them.
-ghost use Rattle.std.specs.Prelude.{◌≡◌};
 ghost use Rattle.std.specs.Option.{option_map};
 ghost use Rattle.text.specs.Answers.{Gives};
 ghost use Rattle.text.specs.Arguments.{Takes};
-ghost use Rattle.console.specs.Commands.{asked, by_kind, comment, host_asked, levels_asked, request, request_of};
+ghost use Rattle.console.specs.Commands.{asked, by_kind, host_asked, levels_asked, named, request, request_of};
 ghost use Rattle.text.specs.Words.{left};
 
 use std::alloc::Global;
 use text::error::LineError;
+use text::lines::parse_line;
 use text::words::Words;
 use verb::{HostKind, Shape, Verb};
 
@@ -21,6 +21,7 @@ pub enum Command {
     List(Vec<u8>),
     Ladder(usize),
     Compartments(usize),
+    // 16 rows, whatever is given: an order map has so many.
     Map { levels: usize, rows: [u16; 16] },
     Flows { from: usize, to: usize },
     Pick { place: usize, mask: usize },
@@ -35,66 +36,59 @@ pub enum Command {
     Help,
 }
 
-// A line that begins with `#` is for people.
-pub fn is_comment(word: &[u8]) -> bool
-    ensures { result ≡ comment word.now }
-{
-    matches!(word, [b'#', ..])
-}
-
 impl Command {
     // The levels that the words ask for.
-    fn levels(heap: Global, words: &mut Words) -> Result<Command, LineError>
+    fn levels(words: &mut Words) -> Result<Command, LineError>
         ensures { Takes request (levels_asked (left words.old)) result (left words.new) }
     {
-        match Shape::of(words.word()?)? {
+        match Shape::of(words.word()?).ok_or(LineError::Shape)? {
             Shape::Ladder => Ok(Command::Ladder(words.number()?)),
             Shape::Compartments => Ok(Command::Compartments(words.number()?)),
             Shape::Map => {
                 let levels = words.number()?;
-                let rows = words.rows(heap)?;
+                let rows = words.rows()?;
                 Ok(Command::Map { levels, rows })
             }
         }
     }
 
     // A host of that kind, with what the words say of it.
-    pub fn of_kind(kind: HostKind, heap: Global, words: &mut Words) -> Result<Command, LineError>
+    pub fn of_kind(kind: HostKind, words: &mut Words) -> Result<Command, LineError>
         ensures { Takes request (by_kind kind (left words.old)) result (left words.new) }
     {
         match kind {
             HostKind::Slot => Ok(Command::SlotHost),
-            HostKind::Caps => Ok(Command::OwnHost(words.capacities(heap)?)),
+            HostKind::Caps => Ok(Command::OwnHost(words.capacities()?)),
         }
     }
 
     // The host that the words ask for.
-    fn host(heap: Global, words: &mut Words) -> Result<Command, LineError>
+    fn host(words: &mut Words) -> Result<Command, LineError>
         ensures { Takes request (host_asked (left words.old)) result (left words.new) }
     {
         let kind = HostKind::of(words.word()?).ok_or(LineError::Host)?;
-        Command::of_kind(kind, heap, words)
+        Command::of_kind(kind, words)
     }
 
-    // The command of that name, with the arguments that it takes from the words.
-    pub fn of(verb: Verb, heap: Global, words: &mut Words) -> Result<Command, LineError>
+    // The command of that verb, with the arguments that it takes from the words.
+    pub fn of(verb: Verb, words: &mut Words) -> Result<Command, LineError>
         ensures { Takes request (asked verb (left words.old)) result (left words.new) }
     {
         match verb {
-            Verb::Read => Ok(Command::Read(words.bytes(heap)?)),
-            Verb::Show => Ok(Command::Show(words.bytes(heap)?)),
+            Verb::Read => Ok(Command::Read(words.bytes()?)),
+            Verb::Show => Ok(Command::Show(words.bytes()?)),
             Verb::Split => {
-                let file = words.bytes(heap)?;
+                let file = words.bytes()?;
                 let index = words.number()?;
                 Ok(Command::Split { file, index })
             }
             Verb::Write => {
-                let file = words.bytes(heap)?;
+                let file = words.bytes()?;
                 let room = words.room()?;
                 Ok(Command::Write { file, room })
             }
-            Verb::List => Ok(Command::List(words.bytes(heap)?)),
-            Verb::Levels => Command::levels(heap, words),
+            Verb::List => Ok(Command::List(words.bytes()?)),
+            Verb::Levels => Command::levels(words),
             Verb::Flows => {
                 let from = words.number()?;
                 let to = words.number()?;
@@ -105,7 +99,7 @@ impl Command {
                 let mask = words.mask()?;
                 Ok(Command::Pick { place, mask })
             }
-            Verb::Host => Command::host(heap, words),
+            Verb::Host => Command::host(words),
             Verb::Put => {
                 let channel = words.number()?;
                 let value = words.value()?;
@@ -119,22 +113,17 @@ impl Command {
         }
     }
 
+    // The command of that name, with the arguments that it takes from the words.
+    pub fn named(name: &[u8], words: &mut Words) -> Result<Command, LineError>
+        ensures { Takes request (named name.now (left words.old)) result (left words.new) }
+    {
+        Command::of(Verb::of(name).ok_or(LineError::Unknown)?, words)
+    }
+
     // What a line asks for; nothing if it is blank or for people.
     pub fn parse(heap: Global, line: &[u8]) -> Result<Option<Command>, LineError>
         ensures { Gives (option_map request) (request_of line.now) result }
     {
-        let mut words = Words::new(line);
-        let Some(name) = words.next_word() else {
-            return Ok(None);
-        };
-        if is_comment(name) {
-            return Ok(None);
-        }
-        let Some(verb) = Verb::of(name) else {
-            return Err(LineError::Unknown);
-        };
-        let command = Command::of(verb, heap, &mut words)?;
-        words.end()?;
-        Ok(Some(command))
+        parse_line(heap, line, Command::named)
     }
 }

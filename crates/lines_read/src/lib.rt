@@ -9,7 +9,7 @@ mod tests {
 
     #[test]
     fn rows_are_read(rt: HostRuntime) {
-        let Ok(rows) = Words::new(b"000f 0ff0").rows(rt.alloc()) else {
+        let Ok(rows) = Words::new(rt.alloc(), b"000f 0ff0").rows() else {
             return assert!(rt; false, "rows");
         };
         assert_eq!(rt; rows, [15, 4080, 0, 0, 0, 0, 0, 0, 0, 0, 0, 0, 0, 0, 0, 0]);
@@ -17,7 +17,7 @@ mod tests {
 
     #[test]
     fn capacities_are_read(rt: HostRuntime) {
-        let Ok(capacities) = Words::new(b"1 65535").capacities(rt.alloc()) else {
+        let Ok(capacities) = Words::new(rt.alloc(), b"1 65535").capacities() else {
             return assert!(rt; false, "capacities");
         };
         assert_eq!(rt; capacities.as_slice(), [1, 65535].as_slice());
@@ -27,16 +27,14 @@ mod tests {
     fn commands_are_made(rt: HostRuntime) {
         let Ok(Command::Flows { from, to }) = Command::of(
             Verb::Flows,
-            rt.alloc(),
-            &mut Words::new(b"3 7"),
+            &mut Words::new(rt.alloc(), b"3 7"),
         ) else {
             return assert!(rt; false, "flows");
         };
         assert_eq!(rt; (from, to), (3, 7));
         let Ok(Command::OwnHost(capacities)) = Command::of_kind(
             HostKind::Caps,
-            rt.alloc(),
-            &mut Words::new(b"4 5"),
+            &mut Words::new(rt.alloc(), b"4 5"),
         ) else {
             return assert!(rt; false, "caps");
         };

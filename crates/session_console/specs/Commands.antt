@@ -1,18 +1,18 @@
 -- What the words of a line ask for. Assumes nothing.
-use Rattle.std.specs.Prelude.{ℕ, cond, List, [], ◌∷◌, ℤ, Some, None, Ok, Err, codes, vec_items, Option, Result, nat_le}
+use Rattle.std.specs.Prelude.{ℕ, cond, List, ℤ, Some, None, Ok, Err, codes, vec_items, Option, Result, nat_le}
 use Rattle.std.specs.Option.{ok_or}
 use Rattle.std.specs.Str.{bytes_eq}
 use Rattle.console.specs.Commands as console
 use Rattle.session_console.specs.declared.command.Command.{Command}
 use Rattle.session_console.specs.declared.command.Command.TheVariants as command
 use Rattle.text.specs.declared.error.LineError.{LineError}
-use Rattle.text.specs.declared.error.LineError.TheVariants.{AnyHost, Turns, Unknown}
-use Rattle.verb.specs.declared.Verb.{Verb}
+use Rattle.text.specs.declared.error.LineError.TheVariants.{AnyHost, Turns}
 use Rattle.verb.specs.declared.VisitVerb.{VisitVerb}
 use Rattle.verb.specs.declared.VisitVerb.TheVariants as visit
 use Rattle.text.specs.Answers.{then}
-use Rattle.text.specs.Arguments.{bytes_of, count_of, room_of, value_of, taken, ended}
-use Rattle.verb.specs.Verbs.{host_of, verb_of, visit_verb_of}
+use Rattle.text.specs.Arguments.{bytes_of, count_of, room_of, value_of, taken}
+use Rattle.text.specs.Lines.{line_asked}
+use Rattle.verb.specs.Verbs.{host_of, visit_verb_of}
 use Rattle.text.specs.Words.{words_of}
 
 -- a command, with the bytes that it holds: one that needs no visit and no strip, or another
@@ -81,23 +81,18 @@ visit_asked visit.Ask ws = of_number ask ws
 visit_asked visit.Entries ws = Ok (entries, ws)
 visit_asked visit.Close ws = Ok (close_visit, ws)
 
--- the same for a command that needs no visit and no strip
-abbrev pub plain_asked : Option Verb → List (List ℕ) → Result (Request × List (List ℕ)) LineError
-plain_asked None ws = Err Unknown
-plain_asked (Some v) ws = of_plain (console.asked v ws)
+-- the same for a command that needs no visit and no strip, by its name
+abbrev pub plain_asked : List ℕ → List (List ℕ) → Result (Request × List (List ℕ)) LineError
+plain_asked name ws = of_plain (console.named name ws)
 
--- and for every command, by its name
+-- and for every command
 abbrev pub by_visit_verb : Option VisitVerb → List ℕ → List (List ℕ) → Result (Request × List (List ℕ)) LineError
 by_visit_verb (Some v) name ws = visit_asked v ws
-by_visit_verb None name ws = cond (bytes_eq name (codes "host")) (host_asked ws) (plain_asked (verb_of name) ws)
+by_visit_verb None name ws = cond (bytes_eq name (codes "host")) (host_asked ws) (plain_asked name ws)
 
 abbrev pub asked : List ℕ → List (List ℕ) → Result (Request × List (List ℕ)) LineError
 asked name ws = by_visit_verb (visit_verb_of name) name ws
 
-abbrev pub requested : List (List ℕ) → Result (Option Request) LineError
-requested [] = Ok None
-requested (name ∷ ws) = cond (console.comment name) (Ok None) (then (asked name ws) (λ p. then (ended p.1) (λ _. Ok (Some p.0))))
-
 -- what a line asks for
 abbrev pub request_of : List ℕ → Result (Option Request) LineError
-request_of line = requested (words_of line)
+request_of line = line_asked asked (words_of line)

@@ -2,5 +2,5 @@ pub mod Counts
 pub mod Cuts
 pub mod HexTexts
 pub mod Hexes
+pub mod Parsing
 pub mod Rows
-pub mod Signs

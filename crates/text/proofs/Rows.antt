@@ -10,10 +10,6 @@ use Rattle.text.specs.Arguments.{entries_from, table_from}
 abbrev pub onto : List ℕ → Result (List ℕ × List (List ℕ)) LineError → Result (List ℕ × List (List ℕ)) LineError
 onto xs r = then r (λ p. Ok (xs ++ p.0, p.1))
 
-onto_nil : (r : Result (List ℕ × List (List ℕ)) LineError) → r ≡ onto [] r
-onto_nil (Ok p) = refl
-onto_nil (Err e) = refl
-
 onto_more : (xs : List ℕ) (x : ℕ) (r : Result (List ℕ × List (List ℕ)) LineError) → onto xs (then r (λ p. Ok (x ∷ p.0, p.1))) ≡ onto (xs ++ x ∷ []) r
 onto_more xs x (Ok p) = ap (λ l. Ok (l, p.1)) (sym (append_assoc xs (x ∷ []) p.0))
 onto_more xs x (Err e) = refl
@@ -22,9 +18,6 @@ module _ (f : List ℕ → Result ℕ LineError) where
   -- the entries xs of the first i words are read, and the words vs are left
   pub record Sofar (ws : List (List ℕ)) (i : ℕ) (xs : List ℕ) (vs : List (List ℕ)) : Type 0 where
     pub left : entries_from f 16 ws ≡ onto xs (entries_from f (16 - i) vs)
-
-  pub start : (ws : List (List ℕ)) (i : ℕ) (xs : List ℕ) → i ≡ 0 → xs ≡ [] → Sofar ws i xs ws
-  start ws i xs e is = record { left = onto_nil (entries_from f 16 ws) ∙ ap (λ l. onto l (entries_from f 16 ws)) (sym is) ∙ ap (λ n. onto xs (entries_from f (16 - n) ws)) (sym e) }
 
   -- one entry is left at least
   one_left : (i : ℕ) (vs us : List (List ℕ)) → i < 16 → vs ≡ us → entries_from f (16 - i) vs ≡ entries_from f (suc (16 - (i + 1))) us

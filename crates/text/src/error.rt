@@ -41,7 +41,7 @@ pub enum LineError {
     Memory,
 }
 
-// By hand, since clauses name what `?` makes of want of memory.
+// By hand, since clauses name what `?` makes of want of memory: thiserror's `#[from]` writes no contract.
 impl From<AllocError> for LineError {
     ghost from_gives = { λ _ r. r ≡ Memory };
 

@@ -11,12 +11,7 @@ pub fn nibble(digit: u8) -> Option<u8>
     ensures is { result ≡ nibble_of digit }
     ensures small { IfSome result (λ n. n < 16) }
 {
-    match digit {
-        b'0'..=b'9' => Some(digit - b'0'),
-        b'a'..=b'f' => Some(digit - b'a' + 10),
-        b'A'..=b'F' => Some(digit - b'A' + 10),
-        _ => None,
-    }
+    char::from(digit).to_digit(16).map(|value| value as u8)
 }
 
 // The lower-case hex digit of a number below 16.
@@ -25,11 +20,7 @@ fn digit(nibble: u8) -> char
     ensures is { result ≡ digit_of nibble }
     ensures ascii { result < 128 }
 {
-    if nibble < 10 {
-        char::from(b'0' + nibble)
-    } else {
-        char::from(b'a' + (nibble - 10))
-    }
+    char::from_digit(u32::from(nibble), 16).unwrap()
 }
 
 // The byte of two hex digits.
@@ -56,11 +47,9 @@ pub fn decode(heap: Global, text: &[u8]) -> Result<Vec<u8>, LineError>
 {
     let mut bytes = Vec::new(heap);
     let mut rest = text;
-    // By a pattern, which tells two digits, one that is left over, and none.
+    // By a pattern, which tells two digits, one that is left over, and none; pairs of `chunks_exact` would have to be indexed.
     while let [high, low, after @ ..] = rest {
-        let Some(b) = byte(*high, *low) else {
-            return Err(LineError::HexDigit);
-        };
+        let b = byte(*high, *low).ok_or(LineError::HexDigit)?;
         bytes.push(b)?;
         rest = after;
     }

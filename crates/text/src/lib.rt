@@ -4,5 +4,6 @@
 pub mod error;
 pub mod hex;
 pub mod laws;
+pub mod lines;
 pub mod number;
 pub mod words;

@@ -52,5 +52,5 @@ pub fn parse_hex(text: &[u8]) -> Option<usize>
 pub fn capped_byte(number: usize) -> u8
     ensures { result ≡ min number 255 }
 {
-    number.min(255) as u8
+    u8::try_from(number).unwrap_or(u8::MAX)
 }

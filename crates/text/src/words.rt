@@ -17,9 +17,10 @@ const LARGEST_ROOM: usize = 65536;
 // Entries for as many levels or channels as there are at most.
 const MOST_ENTRIES: usize = 16;
 
-// What is left of a line.
+// What is left of a line, and the heap for what is made of it.
 #[derive(Clone, Copy)]
 pub struct Words<'a> {
+    heap: Global,
     rest: &'a [u8],
 }
 
@@ -116,8 +117,7 @@ fn capacity_of(word: &[u8]) -> Result<u16, LineError>
         .ok_or(LineError::Capacity)
 }
 
-// A value's two readers: the largest size below 0 is one more than the largest above.
-// The value of that size, if it is not too large.
+// The value of a size, if it is not too large. One line, as `negative_of` is: they differ in the sign and in the bound.
 fn positive_of(size: Option<usize>) -> Result<i32, LineError>
     ensures { result ≡ positive size }
 {
@@ -137,6 +137,7 @@ fn negative_of(size: Option<usize>) -> Result<i32, LineError>
 fn value_of(word: &[u8]) -> Result<i32, LineError>
     ensures { result ≡ value_of word.now }
 {
+    // A match of two cases, each a line: a sign as a value would have to be asked for again.
     match word {
         [b'-', digits @ ..] => negative_of(parse_number(digits)),
         _ => positive_of(parse_number(word)),
@@ -145,10 +146,10 @@ fn value_of(word: &[u8]) -> Result<i32, LineError>
 
 impl<'a> Words<'a> {
     // All words of a line.
-    pub fn new(line: &'a [u8]) -> Words<'a>
+    pub fn new(heap: Global, line: &'a [u8]) -> Words<'a>
         ensures { left result ≡ words_of line.now }
     {
-        Words { rest: line }
+        Words { heap, rest: line }
     }
 
     // The next word, if there is one.
@@ -168,10 +169,10 @@ impl<'a> Words<'a> {
     }
 
     // The bytes that the next word stands for.
-    pub fn bytes(&mut self, heap: Global) -> Result<Vec<u8>, LineError>
+    pub fn bytes(&mut self) -> Result<Vec<u8>, LineError>
         ensures { Takes vec_items (taken bytes_of (left self.old)) result (left self.new) }
     {
-        bytes_of(heap, self.word()?)
+        bytes_of(self.heap, self.word()?)
     }
 
     // The number that the next word is.
@@ -205,16 +206,17 @@ impl<'a> Words<'a> {
     // What `read` makes of the words that are left, of 16 of them at most.
     fn entries<F: Fn(&[u8]) -> Result<u16, LineError>>(
         &mut self,
-        heap: Global,
         read: F,
     ) -> Result<Vec<u16>, LineError>
-        requires { F.IsAlwaysCallable read }
-        ensures are { (f : List ℕ → Result ℕ LineError) → Reads F.Fn read f → Takes vec_items (entries_from f 16 (left self.old)) result (left self.new) }
+        ghost f: { List ℕ → Result ℕ LineError }
+        requires callable { F.IsAlwaysCallable read }
+        requires reads { Reads F.Fn read f }
+        ensures are { Takes vec_items (entries_from f 16 (left self.old)) result (left self.new) }
         ensures few { IfOk result (λ v. vec_len v ≤ 16) }
     {
-        let mut entries = Vec::new(heap);
-        // Not `for`: each round takes its word from `self`, and `Words` is no iterator.
-        while entries.len() < MOST_ENTRIES {
+        let mut entries = Vec::new(self.heap);
+        // Not `by_ref().take(16)`: what `take` promises says nothing of the words that are left after the 16th.
+        for _ in 0..MOST_ENTRIES {
             let Some(word) = self.next_word() else {
                 return Ok(entries);
             };
@@ -224,17 +226,18 @@ impl<'a> Words<'a> {
     }
 
     // The capacities that the next words are, 16 of them at most.
-    pub fn capacities(&mut self, heap: Global) -> Result<Vec<u16>, LineError>
+    pub fn capacities(&mut self) -> Result<Vec<u16>, LineError>
         ensures { Takes vec_items (entries_from capacity_of 16 (left self.old)) result (left self.new) }
     {
-        self.entries(heap, capacity_of)
+        self.entries(capacity_of)
     }
 
     // The rows of an order map that the next words are, 16 of them at most; those that are not given are 0.
-    pub fn rows(&mut self, heap: Global) -> Result<[u16; 16], LineError>
+    // An array and not a `Vec`: an order map has 16 rows, whatever is given.
+    pub fn rows(&mut self) -> Result<[u16; 16], LineError>
         ensures { Takes (λ t. t) (table_from row_of 16 (left self.old)) result (left self.new) }
     {
-        let given = self.entries(heap, row_of)?;
+        let given = self.entries(row_of)?;
         let mut rows = [0; 16];
         rows[..given.len()].copy_from_slice(given.as_slice());
         Ok(rows)
@@ -244,6 +247,7 @@ impl<'a> Words<'a> {
     pub fn end(&mut self) -> Result<(), LineError>
         ensures { result ≡ ended (left self.old) }
     {
+        // A match says both cases: no method makes an error of `Some`.
         match self.next_word() {
             Some(_) => Err(LineError::Extra),
             None => Ok(()),

@@ -1,8 +1,6 @@
 -- The names of the commands. Assumes nothing.
-use Rattle.std.specs.Prelude.{ℕ, cond, List, Some, None, Ok, Err, codes, Option, Result}
+use Rattle.std.specs.Prelude.{ℕ, cond, List, Some, None, codes, Option}
 use Rattle.std.specs.Str.{bytes_eq}
-use Rattle.text.specs.declared.error.LineError.{LineError}
-use Rattle.text.specs.declared.error.LineError.TheVariants as error
 use Rattle.verb.specs.declared.HostKind.{HostKind}
 use Rattle.verb.specs.declared.HostKind.TheVariants as kind
 use Rattle.verb.specs.declared.Shape.{Shape}
@@ -45,11 +43,11 @@ verb_of w =
     (cond (bytes_eq w (codes "help")) (Some verb.Help) None))))))))))))))
 
 -- the kinds of regime
-abbrev pub shape_of : List ℕ → Result Shape LineError
+abbrev pub shape_of : List ℕ → Option Shape
 shape_of w =
-    cond (bytes_eq w (codes "ladder")) (Ok shape.Ladder)
-    (cond (bytes_eq w (codes "compartments")) (Ok shape.Compartments)
-    (cond (bytes_eq w (codes "map")) (Ok shape.Map) (Err error.Shape)))
+    cond (bytes_eq w (codes "ladder")) (Some shape.Ladder)
+    (cond (bytes_eq w (codes "compartments")) (Some shape.Compartments)
+    (cond (bytes_eq w (codes "map")) (Some shape.Map) None))
 
 -- the hosts that every program can make
 abbrev pub host_of : List ℕ → Option HostKind

@@ -4,8 +4,6 @@
 ghost use Rattle.std.specs.Prelude.{◌≡◌};
 ghost use Rattle.verb.specs.Verbs.{host_of, shape_of, verb_of, visit_verb_of};
 
-use text::error::LineError;
-
 // What a line asks for, by its first word.
 #[derive(Clone, Copy, PartialEq, Eq, Debug)]
 pub enum Verb {
@@ -28,6 +26,7 @@ pub enum Verb {
 
 impl Verb {
     // The command of that name.
+    #[tactic(auto, using(crate::proofs::Names::same_name, crate::proofs::Names::other_length, crate::proofs::Names::other_head))]
     pub fn of(word: &[u8]) -> Option<Verb>
         ensures { result ≡ verb_of word.now }
     {
@@ -68,6 +67,7 @@ pub enum VisitVerb {
 
 impl VisitVerb {
     // The command of that name.
+    #[tactic(auto, using(crate::proofs::Names::same_name, crate::proofs::Names::other_length, crate::proofs::Names::other_head))]
     pub fn of(word: &[u8]) -> Option<VisitVerb>
         ensures { result ≡ visit_verb_of word.now }
     {
@@ -96,14 +96,15 @@ pub enum Shape {
 
 impl Shape {
     // The kind of that name.
-    pub fn of(word: &[u8]) -> Result<Shape, LineError>
+    #[tactic(auto, using(crate::proofs::Names::same_name, crate::proofs::Names::other_length, crate::proofs::Names::other_head))]
+    pub fn of(word: &[u8]) -> Option<Shape>
         ensures { result ≡ shape_of word.now }
     {
         match word {
-            b"ladder" => Ok(Shape::Ladder),
-            b"compartments" => Ok(Shape::Compartments),
-            b"map" => Ok(Shape::Map),
-            _ => Err(LineError::Shape),
+            b"ladder" => Some(Shape::Ladder),
+            b"compartments" => Some(Shape::Compartments),
+            b"map" => Some(Shape::Map),
+            _ => None,
         }
     }
 }
