@@ -1,5 +1,5 @@
 // Building a script by hand, from parts that anybody may have made.
-ghost use Rattle.std.specs.Prelude.{◌≡◌, ℕ, ◌<◌, ◌≤◌, true, false, ◌++◌, length, take, Err, MatchResult};
+ghost use Rattle.std.specs.Prelude.{◌≡◌, ℕ, ◌<◌, ◌≤◌, true, false, ◌++◌, length, take, MatchResult};
 ghost use Rattle.refusal.specs.declared.Part.TheVariants as part;
 ghost use Rattle.refusal.specs.declared.Refusal.TheVariants as why;
 ghost use Rattle.script.specs.Flaws.{Builds, FirstHigh, FirstUnsound, flaw};
@@ -61,14 +61,14 @@ fn judge_head(levels: u8, channels: usize) -> Result<(), Flaw>
     )
 }
 
-// The refusal of a channel or an instruction that breaks its law.
-fn out_of_range(part: Part) -> Result<(), Flaw>
-    ensures { result ≡ Err (flaw why.Range part) }
+// The flaw of a channel or an instruction that breaks its law.
+fn out_of_range(part: Part) -> Flaw
+    ensures { result ≡ flaw why.Range part }
 {
-    Err(Flaw {
+    Flaw {
         refusal: Refusal::Range,
         part,
-    })
+    }
 }
 
 // The search for the first flaw is `position`. It stands twice, since channels and instructions each have a law and a part
@@ -79,7 +79,7 @@ fn judge_channels(levels: u8, channels: &[Channel]) -> Result<(), Flaw>
     channels
         .iter()
         .position(|channel| channel.level >= levels)
-        .map_or(Ok(()), |i| out_of_range(Part::Channel(i)))
+        .map_or(Ok(()), |i| Err(out_of_range(Part::Channel(i))))
 }
 
 fn judge_count(count: usize) -> Result<(), Flaw>
@@ -95,7 +95,7 @@ fn judge_instructions(channels: &[Channel], instructions: &[Instruction]) -> Res
     instructions
         .iter()
         .position(|instruction| !is_sound(channels, count, *instruction))
-        .map_or(Ok(()), |i| out_of_range(Part::Instruction(i)))
+        .map_or(Ok(()), |i| Err(out_of_range(Part::Instruction(i))))
 }
 
 // A table that begins with the items and is blank past them.

@@ -7,7 +7,6 @@ use crate::accepted::Script;
 use crate::parts::{Channel, Instruction};
 
 // Every script holds an accepted model.
-#[tactic(auto, using(crate::proofs::Held::every_script_accepted))]
 pub fn every_script_is_accepted()
     ensures { EveryScriptAccepted }
 {}
