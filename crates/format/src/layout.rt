@@ -33,7 +33,7 @@ pub struct Field {
 }
 
 impl Field {
-    // The number that the field holds, 0 where it is absent: by a method, which says so, as `From` would not.
+    // The number that the field holds, 0 where it is absent. By a method, whose name says so; `u32::from(field)` would not.
     pub fn number(self) -> u32
         ensures { result ≡ value_of self }
     {

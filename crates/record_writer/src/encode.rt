@@ -71,8 +71,8 @@ impl RecordBytes {
     }
 }
 
-// The map of a channel record. Each field's bit stands beside the field's name, here and below: a loop over the fields
-// would need them as one array of slices, and a table of names beside it. The direction comes as its number, since a bit
+// The map of a channel record. Each field's bit stands beside the field's name, here and below: a fold over an array of
+// the bits would be given the same list of tests, and be one function more. The direction comes as its number, since a bit
 // says whether that is 0.
 fn channel_map(code: u8, level: u8) -> u8
     ensures { result ≡ map_of (code ∷ level ∷ []) }

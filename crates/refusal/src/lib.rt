@@ -27,7 +27,7 @@ pub enum Refusal {
 }
 
 impl Refusal {
-    // The number by which documents and programs call it: by a method, which says what the number is.
+    // The number by which documents and programs call it. By a method, whose name says so; `u8::from(refusal)` would not.
     pub fn number(self) -> u8
         ensures { result ≡ number_of self }
     {

@@ -9,7 +9,7 @@ use refusal::Refusal;
 
 // The first `channel_count` channels and the first `instruction_count` instructions count. The slots after them
 // hold the blank record, so that two scripts are equal exactly where they are the same value. The tables are arrays
-// with a count, and no `Vec`: a script is held in fixed memory, copied as it stands, and nothing that uses it allocates.
+// with a count, and no `Vec`: a script is held in fixed memory, copied as it stands, and nothing that is sold allocates.
 #[derive(Clone, Copy, PartialEq, Eq)]
 pub struct Script {
     pub levels: u8,
@@ -48,7 +48,7 @@ impl Script {
         self.instructions().get(usize::from(place)).copied()
     }
 
-    // Whether it is one of the channels, by which values go that way.
+    // Refuses a number that is no channel, or a channel of the other direction.
     pub fn judge(&self, channel: u8, direction: Direction) -> Result<(), Refusal>
         ensures { result ≡ judging direction self.now.channels self.now.channel_count channel }
     {

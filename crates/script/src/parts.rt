@@ -10,7 +10,7 @@ pub enum Direction {
 }
 
 impl Direction {
-    // Its number in a file: by a method, which says what the number is, as `From` would not.
+    // Its number in a file. By a method, whose name says which number it is; `u8::from(direction)` would not.
     pub fn code(self) -> u8
         ensures { result ≡ code_of self }
     {
@@ -45,7 +45,7 @@ pub enum Operation {
 }
 
 impl Operation {
-    // The number of the instruction kind that computes it, by a method for the same reason.
+    // The number of the instruction kind that computes it. By a method, whose name says so; `u8::from(operation)` would not.
     pub fn kind(self) -> u8
         ensures { result ≡ kind_of self }
     {
@@ -114,8 +114,10 @@ impl Instruction {
     pub fn fields(self) -> Fields
         ensures { result ≡ fields_of self }
     {
-        let mut fields = Fields::default();
-        fields.kind = self.kind();
+        let fields = Fields {
+            kind: self.kind(),
+            ..Fields::default()
+        };
         match self {
             Instruction::Skip | Instruction::Stop => fields,
             Instruction::Set { target, number } => Fields {
