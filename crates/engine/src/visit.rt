@@ -13,6 +13,8 @@ mod moves;
 mod standing;
 mod steps;
 
+// Contracts read it by `frame_of` and `state_of` and not as a model, by which a refusal would promise less: it leaves the
+// host's own memory too.
 #[derive(Drop)]
 pub struct Visit<R: Regime, H: Host> {
     script: Script,
