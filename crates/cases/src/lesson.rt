@@ -3,6 +3,7 @@ ghost use Rattle.std.specs.Prelude.{◌≡◌, Ok};
 ghost use Rattle.page.specs.Ladder.{ladder};
 ghost use Rattle.page.specs.Slots.{empty_channels};
 ghost use Rattle.engine.specs.Views.{opening};
+ghost use Rattle.format.specs.Refusals.{Reads};
 ghost use Rattle.cases.specs.Lesson.{file_f};
 ghost use Rattle.cases.specs.Told.{answers_of, as_taught, gone_through};
 
@@ -35,6 +36,8 @@ pub fn teach(script: Script) -> Lesson
 {
     let mut visit = Visit::open(script, Ladder::new(2), SlotHost::new());
     let fed = [visit.feed(1, 7), visit.feed(0, 5)];
+    // Written out: once a closure that borrows the visit made them (`map`, tried, or `from_fn`), a proof knows nothing of the
+    // visit; and a loop would need an invariant that tells again what its calls answer.
     let turns = [
         visit.turn(),
         visit.turn(),
@@ -54,10 +57,16 @@ pub fn teach(script: Script) -> Lesson
     }
 }
 
+fn read_file() -> Result<Script, Fault>
+    ensures { Reads file_f result }
+{
+    read_script(&file())
+}
+
 // The lesson with F, which is read from its bytes.
 pub fn teach_file() -> Result<Lesson, Fault>
     ensures { result ≡ Ok as_taught }
 {
-    let script = read_script(&file())?;
+    let script = read_file()?;
     Ok(teach(script))
 }

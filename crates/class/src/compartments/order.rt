@@ -18,6 +18,7 @@ fn marks_for(k: u8) -> u8
 
 impl Compartments {
     // Compartments of `k` marks, or of the nearest number from 0 to 4.
+    #[tactic(auto, using(crate::specs::Covers::own_turns))]
     pub fn new(k: u8) -> Compartments
         ensures order { order_of result ≡ marked (nearest 0 4 k) }
         ensures meaning { OwnTurns (2 ^ nearest 0 4 k) (order_of result) }

@@ -14,6 +14,7 @@ pub(crate) struct Table {
 }
 
 // Has `row` no one bit at or beyond `from`?
+#[tactic(auto, using(class::specs::Marks::blank_decides))]
 fn is_blank(row: u16, from: u8) -> bool
     requires { from ≤ 16 }
     ensures { Decides result ((a : ℕ) → bit row a ≡ true → a < from) }

@@ -1,13 +1,43 @@
 // One channel of the strip.
-ghost use Rattle.std.specs.Prelude.{◌≡◌, ◌<◌, ◌≤◌, [], ◌∷◌, ◌++◌, length, position, MatchResult, Ok, ◌==◌, slice_index_or};
+ghost use Rattle.std.specs.Prelude.{◌≡◌, ◌+◌, ◌-◌, ◌<◌, ◌≤◌, [], ◌∷◌, ◌++◌, length, position, MatchResult, Ok, ◌==◌, slice_index, slice_index_or, slice_set};
 ghost use Rattle.host.specs.Channels.{oldest, rest, with_list};
 ghost use Rattle.refusal.specs.declared.Refusal.TheVariants.{Channel};
-ghost use Rattle.strip.specs.Entries.{listed, none, place};
+ghost use Rattle.strip.specs.Entries.{closed_up, entries_put, listed, none, place};
 ghost use Rattle.strip.specs.Stripped.{StripPuts, StripTakes, channels_of, in_use, lent};
 
 use crate::entry::Entry;
 use crate::strips::StripHost;
 use refusal::Refusal;
+
+// The next entry becomes the value on its channel.
+fn store(entries: &mut [Entry], at: usize, channel: u8, value: i32)
+    requires { at < length entries.old }
+    ensures { entries.new ≡ entries_put at channel value entries.old }
+{
+    entries[at] = Entry { channel, value };
+}
+
+// The entries after the place, of the first `len`, move forward by one.
+fn close_up(entries: &mut [Entry], at: usize, len: usize)
+    requires { (at < len) × (len ≤ length entries.old) }
+    ensures { entries.new ≡ closed_up at len entries.old }
+{
+    entries.copy_within(at + 1..len, at);
+}
+
+fn count_up(counts: &mut [usize; 16], channel: u8)
+    requires { (channel < 16) × (slice_index counts.old channel < 512) }
+    ensures { counts.new ≡ slice_set counts.old channel (slice_index counts.old channel + 1) }
+{
+    counts[channel as usize] += 1;
+}
+
+fn count_down(counts: &mut [usize; 16], channel: u8)
+    requires { (channel < 16) × (0 < slice_index counts.old channel) }
+    ensures { counts.new ≡ slice_set counts.old channel (slice_index counts.old channel - 1) }
+{
+    counts[channel as usize] -= 1;
+}
 
 impl StripHost<'_> {
     // How many values the channel holds, if there is such a channel.
@@ -50,10 +80,9 @@ impl StripHost<'_> {
         ensures after { channels_of self.new ≡ with_list (channels_of self.old) channel (listed channel (in_use self.old) ++ (value ∷ [])) }
         ensures memory { StripPuts self.old channel value self.new }
     {
-        let at = self.len;
-        self.entries[at] = Entry { channel, value };
+        store(self.entries, self.len, channel, value);
         self.len += 1;
-        self.counts[channel as usize] += 1;
+        count_up(&mut self.counts, channel);
     }
 
     // The oldest value of the channel comes out: the entries in use after it move forward by one, and the rest stay.
@@ -65,9 +94,9 @@ impl StripHost<'_> {
     {
         let at = self.find(channel);
         let value = self.value_at(at);
-        self.entries.copy_within(at + 1..self.len, at);
+        close_up(self.entries, at, self.len);
         self.len -= 1;
-        self.counts[channel as usize] -= 1;
+        count_down(&mut self.counts, channel);
         value
     }
 }

@@ -15,9 +15,10 @@ invariant_of-self c =
     let held = s.bounded ch in
     let some = c.requires.1 in
     let inside = c.find-at.ensures.within some in
-    let taken : c.copy_within.new.self ≡ entries_taken s.len ch (lent s) = c.copy_within.ensures.after ∙ moved s.len ch c.find-at.result (lent s) s.within c.find-at.ensures.first inside in
-    let gone : take (s.len - 1) c.copy_within.new.self ≡ without ch (in_use s) = ap (take (s.len - 1)) taken ∙ held_taken s.len ch (lent s) s.within some in
-    let size : length c.copy_within.new.self ≡ length (lent s) = ap length taken ∙ length_taken s.len ch (lent s) s.within some in
+    let counted = c.count_down.ensures in
+    let taken : c.close_up.new.entries ≡ entries_taken s.len ch (lent s) = c.close_up.ensures ∙ moved s.len ch c.find-at.result (lent s) s.within c.find-at.ensures.first inside in
+    let gone : take (s.len - 1) c.close_up.new.entries ≡ without ch (in_use s) = ap (take (s.len - 1)) taken ∙ held_taken s.len ch (lent s) s.within some in
+    let size : length c.close_up.new.entries ≡ length (lent s) = ap length taken ∙ length_taken s.len ch (lent s) s.within some in
     record {
       few = s.few;
       slim = s.slim;
@@ -25,8 +26,8 @@ invariant_of-self c =
       enough = omega arith;
       within = omega arith;
       numbered = ap (known s.count) gone ∙ known_without s.count ch (in_use s) s.numbered;
-      tied = λ d. rw gone (tied_taken s.counts (in_use s) s.tied ch i d);
-      bounded = bounded_set s.counts ch (get_or s.counts ch 0 - 1) s.capacity i s.bounded (omega arith);
+      tied = λ d. rw (counted, gone) (tied_taken s.counts (in_use s) s.tied ch i d);
+      bounded = λ d. rw counted (bounded_set s.counts ch (get_or s.counts ch 0 - 1) s.capacity i s.bounded (omega arith) d);
     }
 
 pub returns-clause-answer : goal.returns-clause-answer
@@ -43,10 +44,10 @@ returns-clause-after c =
     let s = c.args.self.now in
     let ch = c.args.channel in
     let inside = c.find-at.ensures.within c.requires.1 in
-    shrinks s ch _ c.requires.1 (c.copy_within.ensures.after ∙ moved s.len ch c.find-at.result (lent s) s.within c.find-at.ensures.first inside)
+    shrinks s ch _ c.requires.1 (c.close_up.ensures ∙ moved s.len ch c.find-at.result (lent s) s.within c.find-at.ensures.first inside)
 
 pub returns-clause-memory : goal.returns-clause-memory
 returns-clause-memory c =
     let s = c.args.self.now in
     let inside = c.find-at.ensures.within c.requires.1 in
-    (c.copy_within.ensures.after ∙ moved s.len c.args.channel c.find-at.result (lent s) s.within c.find-at.ensures.first inside, refl, refl)
+    (c.close_up.ensures ∙ moved s.len c.args.channel c.find-at.result (lent s) s.within c.find-at.ensures.first inside, refl, refl)
