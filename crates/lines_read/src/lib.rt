@@ -4,6 +4,7 @@
 #[cfg(test)]
 mod tests {
     use console::command::Command;
+    use text::error::LineError;
     use text::words::Words;
     use verb::{HostKind, Verb};
 
@@ -39,5 +40,28 @@ mod tests {
             return assert!(rt; false, "caps");
         };
         assert_eq!(rt; capacities.as_slice(), [4, 5].as_slice());
+    }
+
+    #[test]
+    fn bytes_are_read(rt: HostRuntime) {
+        let Ok(bytes) = Words::new(rt.alloc(), b"0aFf -").bytes() else {
+            return assert!(rt; false, "bytes");
+        };
+        assert_eq!(rt; bytes.as_slice(), [10, 255].as_slice());
+    }
+
+    #[test]
+    fn lines_are_parsed(rt: HostRuntime) {
+        let Ok(Some(Command::Flows { from, to })) = Command::parse(rt.alloc(), b" flows 3 7 ")
+        else {
+            return assert!(rt; false, "flows");
+        };
+        assert_eq!(rt; (from, to), (3, 7));
+        let Ok(None) = Command::parse(rt.alloc(), b"# flows 3 7") else {
+            return assert!(rt; false, "a line for people");
+        };
+        let Err(LineError::Extra) = Command::parse(rt.alloc(), b"flows 3 7 8") else {
+            return assert!(rt; false, "a word too many");
+        };
     }
 }

@@ -1,6 +1,5 @@
 -- Reading a number digit by digit. Assumes nothing.
-use Rattle.std.proofs.Common.{◌≡◌, ℕ, ◌+◌, ◌*◌, ◌^◌, ◌<◌, ◌≤◌, Bool, true, false, cond, ◌&&◌, ltb, List, [], ◌∷◌, length, get_or, drop, Some, None, Option, sym, refl, ap, ◌∙◌, mul-le-mul_left, arith}
-use Rattle.std.proofs.lemmas.List.{drop_more}
+use Rattle.std.proofs.Common.{◌≡◌, ℕ, ◌+◌, ◌*◌, ◌^◌, ◌<◌, ◌≤◌, Bool, true, false, cond, ◌&&◌, ltb, List, [], ◌∷◌, length, Some, None, Option, sym, refl, ◌∙◌, mul-le-mul_left, arith}
 use Rattle.std.proofs.lemmas.Bool.{ltb-true, ltb-false, le-ltb, lt-ltb, and_right, cond-true, cond-false}
 use Rattle.text.specs.Numbers.{digit_value, all_in, value_from, number_in, pushed}
 
@@ -14,7 +13,7 @@ module _ (base : ℕ) (some : 1 ≤ base) where
   read_from o [] = o
   read_from o (c ∷ cs) = read_from (step o c) cs
 
-  from_none : (cs : List ℕ) → read_from None cs ≡ None
+  pub from_none : (cs : List ℕ) → read_from None cs ≡ None
   from_none [] = refl
   from_none (c ∷ cs) = from_none cs
 
@@ -44,10 +43,3 @@ module _ (base : ℕ) (some : 1 ≤ base) where
   pub read_all : (t : List ℕ) → 0 < length t → read_from (Some 0) t ≡ number_in base t
   read_all [] h = absurd (omega arith)
   read_all (c ∷ cs) h = read_whole 0 (c ∷ cs) (omega arith)
-
-  -- one turn of the loop: the next digit
-  pub read_more : (t : List ℕ) (i n : ℕ) (o r : Option ℕ) → i < length t → o ≡ pushed base n (get_or t i 0) → read_from (Some n) (drop i t) ≡ r → read_from o (drop (i + 1) t) ≡ r
-  read_more t i n o r h is inv = ap (λ p. read_from p (drop (i + 1) t)) is ∙ ap (read_from (Some n)) (sym (drop_more t i 0 h)) ∙ inv
-
-  pub read_stops : (t : List ℕ) (i n : ℕ) (r : Option ℕ) → i < length t → None ≡ pushed base n (get_or t i 0) → read_from (Some n) (drop i t) ≡ r → None ≡ r
-  read_stops t i n r h is inv = sym (from_none (drop (i + 1) t)) ∙ read_more t i n None r h is inv

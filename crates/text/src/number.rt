@@ -26,12 +26,8 @@ fn parse_in(base: usize, text: &[u8]) -> Option<usize>
     if text.is_empty() {
         return None;
     }
-    let mut number = 0;
-    // Not `try_fold`: what it promises of a run that breaks off would need more lemmas than this loop's invariant.
-    for c in text {
-        number = push_digit(base, number, *c)?;
-    }
-    Some(number)
+    text.iter()
+        .try_fold(0, |number, c| push_digit(base, number, *c))
 }
 
 // The number that a text writes in decimal.

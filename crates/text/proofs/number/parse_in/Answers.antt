@@ -1,19 +1,15 @@
-use Rattle.std.proofs.Common.{◌<◌, length, Some, sym, ap, ◌∙◌, arith, false-eqb}
-use Rattle.std.proofs.lemmas.List.{drop_all}
-use Rattle.text.specs.Numbers.{number_in}
-use Rattle.text.proofs.Counts.{read_from, read_all, read_more, read_stops}
+use Rattle.std.proofs.Common.{◌<◌, length, sym, ◌∙◌, arith, false-eqb, rules}
+use Rattle.std.proofs.lemmas.Iterator.{YieldsList-from_slice}
+use Rattle.text.proofs.Counts.{read_all}
+use Rattle.text.proofs.Digits.{so_far, last}
 use Rattle.text.proofs.number.parse_in.Goals as goal
 
-pub loop-c-init : goal.loop-c-init
-loop-c-init c some =
-    let long : 0 < length c.args.text.now = omega (arith, false-eqb) in
-    read_all c.args.base some c.args.text.now long
-
-pub returns-in_err-number : goal.returns-in_err-number
-returns-in_err-number c = rw c.from_residual.ensures (read_stops c.args.base c.requires.some c.args.text.now c.loop-c.c-index c.loop-c.number (number_in c.args.base c.args.text.now) (omega arith) c.in_err-number.ensures (c.loop-c.invariant c.requires.some))
-
-pub loop-c-preserved : goal.loop-c-preserved
-loop-c-preserved c some = read_more c.args.base some c.args.text.now c.loop-c.c-index c.loop-c.number (Some c.in_ok-number.number) (number_in c.args.base c.args.text.now) (omega arith) c.in_ok-number.ensures (c.loop-c.invariant some)
-
 pub returns : goal.returns
-returns c = ap (read_from c.args.base c.requires.some (Some c.loop-c.number)) (sym (drop_all c.loop-c.c-index c.args.text.now (omega arith))) ∙ c.loop-c.invariant c.requires.some
+returns c =
+    let base = c.args.base in
+    let some = c.requires.some in
+    let text = c.args.text.now in
+    let long : 0 < length text = omega (arith, false-eqb) in
+    let ran = c.try_fold.ensures.ran in
+    let (left, runs, same, reads) = so_far base some _ _ (λ a x q k. (search rules, sym k.2 ∙ (let called = k.1 in search rules))) ran.0 c.iter.result ran.4.0 text _ (ran.2, ran.3) (YieldsList-from_slice {s = c.iter.result} text (cc)).runs ran.4.1 ran.5 in
+    last base some _ _ _ ran.3 (λ h. search rules) (λ x h. (h.5, (let called = h.3 in search rules))) ran.1 ran.4.0 c.try_fold.new.self left runs ran.4.2 ran.6 ∙ sym reads ∙ read_all base some text long
