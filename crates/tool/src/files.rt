@@ -12,7 +12,7 @@ use writer::file::write_script;
 const UNWRITTEN: u8 = 0xEE;
 
 // Prints `refused`, the refusal's number, the byte and the part.
-pub fn refuse_file(rt: &HostRuntime, fault: Fault) -> io::Result<()> {
+fn refuse_file(rt: &HostRuntime, fault: Fault) -> io::Result<()> {
     println!(rt; "{}", Told(fault))
 }
 
@@ -24,20 +24,28 @@ pub fn tell_script(rt: &HostRuntime, script: &Script) -> io::Result<()> {
     println!(rt; "script {levels} {channels} {instructions}")
 }
 
-// Prints the same of the file's script.
-pub fn read(rt: &HostRuntime, file: &[u8]) -> io::Result<()> {
+// The answer about a file's script, or the refusal of the file.
+pub fn answer_file<F: FnOnce(&Script) -> io::Result<()>>(
+    rt: &HostRuntime,
+    file: &[u8],
+    answer: F,
+) -> io::Result<()>
+    requires { F.IsAlwaysCallable answer }
+{
     match read_script(file) {
-        Ok(script) => tell_script(rt, &script),
+        Ok(script) => answer(&script),
         Err(fault) => refuse_file(rt, fault),
     }
 }
 
+// Prints the same of the file's script.
+pub fn read(rt: &HostRuntime, file: &[u8]) -> io::Result<()> {
+    answer_file(rt, file, |script| tell_script(rt, script))
+}
+
 // Prints the script's channels and instructions, field by field.
 pub fn show(rt: &HostRuntime, file: &[u8]) -> io::Result<()> {
-    match read_script(file) {
-        Ok(script) => println!(rt; "{}", Shown(&script)),
-        Err(fault) => refuse_file(rt, fault),
-    }
+    answer_file(rt, file, |script| println!(rt; "{}", Shown(script)))
 }
 
 // Prints what the record is, the number of its first byte, and its bytes; or `nothing` where there is none.
@@ -54,18 +62,19 @@ pub fn split(rt: &HostRuntime, file: &[u8], index: usize) -> io::Result<()> {
     }
 }
 
-// Writes the file's script to a buffer of that size, and prints whether it fits. The whole buffer is printed, so that
-// it is seen which bytes were left as they were.
-pub fn write(rt: &HostRuntime, file: &[u8], room: usize) -> io::Result<()> {
-    let script = match read_script(file) {
-        Ok(script) => script,
-        Err(fault) => return refuse_file(rt, fault),
-    };
+// Writes the script to a buffer of that size, and prints whether it fits. The whole buffer is printed, so that it is
+// seen which bytes were left as they were.
+fn tell_written(rt: &HostRuntime, script: &Script, room: usize) -> io::Result<()> {
     let mut buffer = vec![in rt.alloc(); UNWRITTEN; room]?;
-    let written = write_script(&script, buffer.as_mut_slice());
+    let written = write_script(script, buffer.as_mut_slice());
     let shown = word_of(rt.alloc(), buffer.as_slice())?;
     match written {
         Ok(length) => println!(rt; "written {length} {shown}"),
         Err(refusal) => println!(rt; "refused {} {shown}", refusal.number()),
     }
+}
+
+// The same of the file's script.
+pub fn write(rt: &HostRuntime, file: &[u8], room: usize) -> io::Result<()> {
+    answer_file(rt, file, |script| tell_written(rt, script, room))
 }

@@ -1,7 +1,7 @@
 // The lines that `help` prints, in pieces, since a program with more commands has lines of its own between them.
 use std::io;
 
-pub const FILES: [&str; 12] = [
+pub const FILES: &[&str] = &[
     "read HEX        how many levels, channels and instructions a file has",
     "show HEX        its channels and the fields of its instructions",
     "split HEX I     its record with index I, channels first",
@@ -16,22 +16,22 @@ pub const FILES: [&str; 12] = [
     "host caps CAP ...  a host with a channel of each capacity, 16 at most",
 ];
 
-pub const CALLS: [&str; 3] = [
+pub const CALLS: &[&str] = &[
     "put C V         the value V goes to the end of channel C",
     "take C          the oldest value of channel C comes out",
     "count | held C | space C  how many channels, how many values, how many more fit",
 ];
 
-pub const UNMADE: [&str; 1] = ["                (unmade, where no host was made)"];
+pub const UNMADE: &[&str] = &["                (unmade, where no host was made)"];
 
-pub const LAST: [&str; 2] = [
+pub const LAST: &[&str] = &[
     "help            these lines",
     "HEX is hex digits, or - for no bytes; a line that begins with # is left out",
 ];
 
-// Prints the lines.
-pub fn tell_lines(rt: &HostRuntime, lines: &[&str]) -> io::Result<()> {
-    for line in lines {
+// Prints the lines of each piece.
+pub fn tell_pieces(rt: &HostRuntime, pieces: &[&[&str]]) -> io::Result<()> {
+    for line in pieces.iter().copied().flatten() {
         rt.println(*line)?;
     }
     Ok(())

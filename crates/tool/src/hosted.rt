@@ -1,9 +1,13 @@
 // The hosts that every program can make.
+use host::calls::Host;
 use own_host::lanes::HeapHost;
-use std::fmt;
+use std::{fmt, io};
 use text::error::LineError;
 
-// Capacities with commas between them.
+// The capacity of each channel of the slot host.
+pub const SLOT_CAPACITY: usize = 32;
+
+// Capacities with commas between them. A struct of one field: a crate may not implement `Display` for a slice.
 #[derive(Clone, Copy)]
 pub struct Capacities<'a>(pub &'a [u16]);
 
@@ -29,4 +33,13 @@ pub fn heap_host(rt: &HostRuntime, capacities: &[u16]) -> Result<HeapHost, LineE
             .map_err(|_| LineError::Memory)?;
     }
     Ok(host)
+}
+
+// Prints that a host was made, with how many channels, and the capacity of each.
+pub fn tell_host<H: Host, C: fmt::Display + Copy>(
+    rt: &HostRuntime,
+    host: &H,
+    capacity: C,
+) -> io::Result<()> {
+    println!(rt; "host {} capacity {capacity}", host.count())
 }

@@ -19,7 +19,7 @@ pub fn tell<T: fmt::Display + Copy>(
     }
 }
 
-// Prints that word alone, or the refusal.
+// Prints that word alone, or the refusal. A function of its own, since `()` has no text.
 pub fn tell_done(rt: &HostRuntime, word: &str, answer: Result<(), Refusal>) -> io::Result<()> {
     match answer {
         Ok(()) => println!(rt; "{word}"),

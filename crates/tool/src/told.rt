@@ -1,11 +1,11 @@
 // Parts, faults and scripts as other programs read them.
 use refusal::{Fault, Part};
 use script::accepted::Script;
-use script::parts::{Channel, Instruction};
+use script::parts::{Channel, Fields, Instruction};
 use std::fmt;
 
-// The part that a fault is in. A struct of one field, here and below: how a type of another crate is printed is said by one
-// of this crate.
+// The part that a fault is in. A struct of one field, here and below: a crate may not implement `Display` for a type of
+// another crate.
 #[derive(Clone, Copy)]
 pub struct Named(pub Part);
 
@@ -27,34 +27,51 @@ pub struct Told(pub Fault);
 
 impl fmt::Display for Told {
     fn fmt<W: fmt::Write>(&self, f: &mut fmt::Formatter<W>) -> fmt::Result {
-        let number = self.0.refusal.number();
-        let byte = self.0.byte;
-        write!(f, "refused {number} byte {byte} {}", Named(self.0.part))
+        let Fault {
+            refusal,
+            byte,
+            part,
+        } = self.0;
+        write!(
+            f,
+            "refused {} byte {byte} {}",
+            refusal.number(),
+            Named(part)
+        )
     }
 }
 
-fn write_channel<W: fmt::Write>(f: &mut fmt::Formatter<W>, channel: Channel) -> fmt::Result {
-    let direction = channel.direction.code();
-    let level = channel.level;
-    write!(f, " {direction}:{level}")
+// A channel, by its numbers.
+#[derive(Clone, Copy)]
+struct ChannelFields(Channel);
+
+impl fmt::Display for ChannelFields {
+    fn fmt<W: fmt::Write>(&self, f: &mut fmt::Formatter<W>) -> fmt::Result {
+        let Channel { direction, level } = self.0;
+        write!(f, "{}:{level}", direction.code())
+    }
 }
 
-fn write_instruction<W: fmt::Write>(
-    f: &mut fmt::Formatter<W>,
-    instruction: Instruction,
-) -> fmt::Result {
-    let fields = instruction.fields();
-    let kind = fields.kind;
-    let target = fields.target;
-    let first = fields.first;
-    let second = fields.second;
-    let number = fields.number;
-    let place = fields.place;
-    let channel = fields.channel;
-    write!(
-        f,
-        " {kind},{target},{first},{second},{number},{place},{channel}"
-    )
+// An instruction, by the seven fields that a file has for it.
+#[derive(Clone, Copy)]
+struct InstructionFields(Instruction);
+
+impl fmt::Display for InstructionFields {
+    fn fmt<W: fmt::Write>(&self, f: &mut fmt::Formatter<W>) -> fmt::Result {
+        let Fields {
+            kind,
+            target,
+            first,
+            second,
+            number,
+            place,
+            channel,
+        } = self.0.fields();
+        write!(
+            f,
+            "{kind},{target},{first},{second},{number},{place},{channel}"
+        )
+    }
 }
 
 // The channels and the instructions of a script, field by field.
@@ -64,12 +81,12 @@ pub struct Shown<'a>(pub &'a Script);
 impl fmt::Display for Shown<'_> {
     fn fmt<W: fmt::Write>(&self, f: &mut fmt::Formatter<W>) -> fmt::Result {
         f.write_str("channels")?;
-        for channel in self.0.channels.iter().take(self.0.channel_count) {
-            write_channel(f, *channel)?;
+        for channel in self.0.channels() {
+            write!(f, " {}", ChannelFields(*channel))?;
         }
         f.write_str(" instructions")?;
-        for instruction in self.0.instructions.iter().take(self.0.instruction_count) {
-            write_instruction(f, *instruction)?;
+        for instruction in self.0.instructions() {
+            write!(f, " {}", InstructionFields(*instruction))?;
         }
         Ok(())
     }
