@@ -1,6 +1,5 @@
 // The answers to the commands.
 use console::command::Command;
-use host::calls::Host;
 use house::any_regime::AnyRegime;
 use house::hosts::AnyHost;
 use own_host::lanes::HeapHost;
@@ -8,37 +7,33 @@ use page::slots::SlotHost;
 use std::io;
 use std::io::{BufRead, BufReader, Read};
 use tool::answer::{answer, answer_with};
-use tool::help::{CALLS, FILES, LAST, UNMADE, tell_lines};
-use tool::hosted::{Capacities, heap_host};
+use tool::help::{CALLS, FILES, LAST, UNMADE, tell_pieces};
+use tool::hosted::{Capacities, SLOT_CAPACITY, heap_host, tell_host};
 use tool::inputs::AnswersLines;
 
 // What was made last, which other lines ask about.
-#[derive(Drop)]
+#[derive(Default, Drop)]
 pub struct Made {
     pub levels: Option<AnyRegime>,
     pub host: Option<AnyHost<HeapHost>>,
 }
 
 fn help(rt: &HostRuntime) -> io::Result<()> {
-    tell_lines(rt, &FILES)?;
-    tell_lines(rt, &CALLS)?;
-    tell_lines(rt, &UNMADE)?;
-    tell_lines(rt, &LAST)
+    tell_pieces(rt, &[FILES, CALLS, UNMADE, LAST])
 }
 
 impl Made {
     fn make_slot(&mut self, rt: &HostRuntime) -> io::Result<()> {
-        self.host = Some(AnyHost::Slot(SlotHost::new()));
-        println!(rt; "host 16 capacity 32")
+        let host = self.host.insert(AnyHost::Slot(SlotHost::new()));
+        tell_host(rt, &*host, SLOT_CAPACITY)
     }
 
     // Without enough memory the host that was made before stays.
     fn make_own(&mut self, rt: &HostRuntime, capacities: &[u16]) -> io::Result<()> {
         match heap_host(rt, capacities) {
             Ok(host) => {
-                let count = host.count();
-                self.host = Some(AnyHost::Own(host));
-                println!(rt; "host {count} capacity {}", Capacities(capacities))
+                let host = self.host.insert(AnyHost::Own(host));
+                tell_host(rt, &*host, Capacities(capacities))
             }
             Err(error) => println!(rt; "error {error}"),
         }
@@ -56,7 +51,7 @@ impl Made {
         }
     }
 
-    // A line that cannot be understood is answered too, so that the others still are.
+    // A line that cannot be understood is answered too, so that the others still are; one that asks for nothing is not.
     fn answer_line(&mut self, rt: &HostRuntime, line: &[u8]) -> io::Result<()> {
         match Command::parse(rt.alloc(), line) {
             Ok(Some(command)) => self.answer(rt, command),

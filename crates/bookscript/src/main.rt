@@ -8,9 +8,5 @@ use std::io;
 use tool::inputs::answer_inputs;
 
 fn main(rt: HostRuntime) -> io::Result<()> {
-    let mut made = Made {
-        levels: None,
-        host: None,
-    };
-    answer_inputs(&rt, &mut made)
+    answer_inputs(&rt, &mut Made::default())
 }

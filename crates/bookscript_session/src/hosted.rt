@@ -15,24 +15,25 @@ pub enum NewHost {
     Slot,
     Own {
         host: HeapHost,
+        // To be shown: a host tells how much space is left, and no capacity.
         capacities: Vec<u16>,
     },
     Strip {
+        // How many channels; the entries are as many as the line asks for.
         count: usize,
         entries: Vec<Entry>,
     },
 }
 
-// The entries of a strip, those that are not in use too.
+// The entries of a strip, those that are not in use too. A struct of one field: a crate may not implement `Display` for a
+// slice.
 #[derive(Clone, Copy)]
 struct Entries<'a>(&'a [Entry]);
 
 impl fmt::Display for Entries<'_> {
     fn fmt<W: fmt::Write>(&self, f: &mut fmt::Formatter<W>) -> fmt::Result {
         f.write_str("entries")?;
-        for entry in self.0 {
-            let channel = entry.channel;
-            let value = entry.value;
+        for Entry { channel, value } in self.0 {
             write!(f, " {channel}:{value}")?;
         }
         Ok(())
@@ -56,19 +57,18 @@ impl TellsEntries for StripHost<'_> {
     }
 }
 
-// Entries that no host has used: of a channel that there is not, and each with a value of its own.
+// Entries that no host has used: of a channel that there is not, and each with a value of its own. A line asks for fewer
+// than there are values below 0.
 fn unused_entries(rt: &HostRuntime, count: usize) -> Result<Vec<Entry>, LineError> {
-    let mut entries = Vec::new(rt.alloc());
-    // Counted beside the loop: it wraps, where a number of entries may be too large for a value.
-    let mut value = 0i32;
-    for _ in 0..count {
-        value = value.wrapping_sub(1);
-        entries.push(Entry {
-            channel: 255,
-            value,
-        })?;
-    }
-    Ok(entries)
+    let values = (i32::MIN..0).rev().take(count);
+    Ok(
+        values
+            .map(|value| Entry {
+                channel: 255,
+                value,
+            })
+            .collect(rt.alloc())?,
+    )
 }
 
 // The host that a line asks for, if it asks for one.

@@ -2,14 +2,13 @@
 use console::command::Command as Plain;
 use session_console::command::Command;
 use std::io;
-use std::io::{BufRead, BufReader, Read, Split};
-use tool::help::{CALLS, FILES, LAST, UNMADE, tell_lines};
+use tool::help::{CALLS, FILES, LAST, UNMADE, tell_pieces};
 
-const STRIP: [&str; 1] = ["host strip COUNT ENTRIES  a host over a list of entries, 65536 at most"];
+const STRIP: &[&str] = &["host strip COUNT ENTRIES  a host over a list of entries, 65536 at most"];
 
-const ENTRIES: [&str; 1] = ["entries         every entry of the strip, in use or not"];
+const ENTRIES: &[&str] = &["entries         every entry of the strip, in use or not"];
 
-const VISITS: [&str; 6] = [
+const VISITS: &[&str] = &[
     "script HEX      the script of the next visit",
     "open | close    a visit with the script, levels and host that were made; its end",
     "feed C V | collect C  a value goes into channel C of the visit, or comes out of it",
@@ -19,39 +18,16 @@ const VISITS: [&str; 6] = [
 ];
 
 fn help(rt: &HostRuntime) -> io::Result<()> {
-    tell_lines(rt, &FILES)?;
-    tell_lines(rt, &STRIP)?;
-    tell_lines(rt, &CALLS)?;
-    tell_lines(rt, &ENTRIES)?;
-    tell_lines(rt, &UNMADE)?;
-    tell_lines(rt, &VISITS)?;
-    tell_lines(rt, &LAST)
+    tell_pieces(rt, &[FILES, STRIP, CALLS, ENTRIES, UNMADE, VISITS, LAST])
 }
 
-// Lines are bytes: one that is not UTF-8 is a bad line like any other.
-#[derive(Drop)]
-pub struct Lines<R> {
-    parts: Split<BufReader<R>>,
-}
-
-impl<R: Read + Drop> Lines<R> {
-    pub fn new(rt: &HostRuntime, input: R) -> io::Result<Lines<R>> {
-        Ok(Lines {
-            parts: BufReader::new(rt.alloc(), input)?.split(rt.alloc(), b'\n'),
-        })
+// What a line asks for. Nothing if it is blank or for people, and if it is answered here: `help`, whose answer is always
+// the same, and a line that cannot be understood, so that the others still are.
+pub fn command_of(rt: &HostRuntime, line: &[u8]) -> io::Result<Option<Command>> {
+    match Command::parse(rt.alloc(), line) {
+        Ok(Some(Command::Plain(Plain::Help))) => help(rt)?,
+        Ok(command) => return Ok(command),
+        Err(error) => println!(rt; "error {error}")?,
     }
-
-    // The next command; nothing where the lines end. `help`, whose answer is always the same, is answered here, and so
-    // is a line that cannot be understood, so that the others still are.
-    pub fn next_command(&mut self, rt: &HostRuntime) -> io::Result<Option<Command>> {
-        for line in &mut self.parts {
-            match Command::parse(rt.alloc(), line?.as_slice()) {
-                Ok(Some(Command::Plain(Plain::Help))) => help(rt)?,
-                Ok(Some(command)) => return Ok(Some(command)),
-                Ok(None) => {}
-                Err(error) => println!(rt; "error {error}")?,
-            }
-        }
-        Ok(None)
-    }
+    Ok(None)
 }

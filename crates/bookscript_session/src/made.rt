@@ -2,14 +2,13 @@
 use crate::hosted::TellsEntries;
 use host::calls::Host;
 use house::any_regime::AnyRegime;
-use reader::file::read_script;
 use script::accepted::Script;
 use session_console::command::Command;
 use std::io;
 use tool::answer::{answer, answer_about, answer_with};
-use tool::files::{refuse_file, tell_script};
+use tool::files::{answer_file, tell_script};
 
-#[derive(Clone, Copy)]
+#[derive(Clone, Copy, Default)]
 pub struct Made {
     pub script: Option<Script>,
     pub levels: Option<AnyRegime>,
@@ -23,13 +22,10 @@ impl Made {
 
     // A file that is refused leaves the script that was made before.
     fn make_script(&mut self, rt: &HostRuntime, file: &[u8]) -> io::Result<()> {
-        match read_script(file) {
-            Ok(script) => {
-                self.script = Some(script);
-                tell_script(rt, &script)
-            }
-            Err(fault) => refuse_file(rt, fault),
-        }
+        answer_file(rt, file, |script| {
+            self.script = Some(*script);
+            tell_script(rt, script)
+        })
     }
 
     // A line while there is no host. What only a host or a visit could answer is unmade.

@@ -1,32 +1,81 @@
-// The rounds of a session: lines before there is a host, lines to a host, lines to a visit.
+// A session: lines before there is a host, lines to a host, lines to a visit.
 use crate::hosted::{NewHost, TellsEntries, host_asked};
-use crate::lines::Lines;
+use crate::lines::command_of;
 use crate::made::Made;
 use crate::visited::{tell_collect, tell_feed, tell_standing, tell_turn, tell_turns};
 use console::command::Command as Plain;
 use engine::visit::Visit;
 use host::calls::Host;
 use house::any_regime::AnyRegime;
-use own_host::lanes::HeapHost;
 use page::slots::SlotHost;
-use script::accepted::Script;
 use session_console::command::Command;
-use std::io;
-use std::io::Read;
+use std::io::{BufRead, BufReader, Read, Split};
+use std::ops::ControlFlow;
+use std::{fmt, io};
 use strip::entry::Entry;
 use strip::strips::StripHost;
-use tool::hosted::Capacities;
+use tool::hosted::{Capacities, SLOT_CAPACITY, tell_host};
 use tool::inputs::AnswersLines;
 
-// No input has as many lines. Rounds are counted and no iterator gives them, since each borrows the session anew.
-const ROUNDS: usize = usize::MAX;
+// No input asks for as many hosts.
+const HOSTS: usize = usize::MAX;
 
-// What ends the lines to a host: another host is asked for, or there are no more lines; or a call of a visit, which
-// opens it.
+// Where a session is: what a line is answered by. A line leaves the stage that answers the next one, or asks for another
+// host, which ends the stage.
+trait Stage: Drop {
+    fn answer(
+        self,
+        rt: &HostRuntime,
+        made: &mut Made,
+        command: Command,
+    ) -> io::Result<ControlFlow<NewHost, Self>>;
+}
+
+// The host that a line asks for, or its answer.
+fn host_or<F: FnOnce(Command) -> io::Result<()>>(
+    rt: &HostRuntime,
+    command: Command,
+    answer: F,
+) -> io::Result<Option<NewHost>>
+    requires { F.IsAlwaysCallable answer }
+{
+    match host_asked(rt, &command) {
+        Ok(Some(host)) => return Ok(Some(host)),
+        Ok(None) => answer(command)?,
+        Err(error) => println!(rt; "error {error}")?,
+    }
+    Ok(None)
+}
+
+// What a stage comes to, which ends where a host is asked for.
+fn next_stage<S: Drop>(stage: S, asked: Option<NewHost>) -> ControlFlow<NewHost, S> {
+    match asked {
+        Some(host) => ControlFlow::Break(host),
+        None => ControlFlow::Continue(stage),
+    }
+}
+
+// No host was made yet.
+#[derive(Clone, Copy)]
+struct Unhosted;
+
+impl Stage for Unhosted {
+    fn answer(
+        self,
+        rt: &HostRuntime,
+        made: &mut Made,
+        command: Command,
+    ) -> io::Result<ControlFlow<NewHost, Unhosted>> {
+        let asked = host_or(rt, command, |command| made.answer(rt, command))?;
+        Ok(next_stage(self, asked))
+    }
+}
+
+// A host, or the visit that has it while one is open.
 #[derive(Drop)]
-enum Waited {
-    Next(Option<NewHost>),
-    Open(Script, AnyRegime, Command),
+enum Hosted<H: Host> {
+    Host(H),
+    Visit(Visit<AnyRegime, H>),
 }
 
 fn is_call(command: &Command) -> bool {
@@ -93,110 +142,102 @@ fn answer_first<H: Host + TellsEntries>(
     }
 }
 
-// The lines of one input, and what they made.
+impl<H: Host + TellsEntries + Drop> Hosted<H> {
+    // A line to a host that no visit has. A call of a visit opens one, if script and levels were made.
+    fn answer_host(
+        rt: &HostRuntime,
+        made: &mut Made,
+        host: H,
+        command: Command,
+    ) -> io::Result<ControlFlow<NewHost, Hosted<H>>> {
+        if is_call(&command)
+            && let Some((script, levels)) = made.ready()
+        {
+            let mut visit = Visit::open(script, levels, host);
+            answer_first(rt, made, &mut visit, command)?;
+            return Ok(ControlFlow::Continue(Hosted::Visit(visit)));
+        }
+        let mut host = host;
+        let asked = host_or(
+            rt,
+            command,
+            |command| made.answer_with(rt, &mut host, command),
+        )?;
+        Ok(next_stage(Hosted::Host(host), asked))
+    }
+
+    // A line to an open visit, which gives its host back when it is closed.
+    fn answer_visit(
+        rt: &HostRuntime,
+        made: &mut Made,
+        visit: Visit<AnyRegime, H>,
+        command: Command,
+    ) -> io::Result<Hosted<H>> {
+        if let Command::Close = command {
+            println!(rt; "closed")?;
+            let (_, _, host) = visit.end();
+            return Ok(Hosted::Host(host));
+        }
+        let mut visit = visit;
+        answer_visit(rt, made, &mut visit, command)?;
+        Ok(Hosted::Visit(visit))
+    }
+}
+
+impl<H: Host + TellsEntries + Drop> Stage for Hosted<H> {
+    fn answer(
+        self,
+        rt: &HostRuntime,
+        made: &mut Made,
+        command: Command,
+    ) -> io::Result<ControlFlow<NewHost, Hosted<H>>> {
+        match self {
+            Hosted::Host(host) => Hosted::answer_host(rt, made, host, command),
+            Hosted::Visit(visit) => {
+                Ok(ControlFlow::Continue(Hosted::answer_visit(rt, made, visit, command)?))
+            }
+        }
+    }
+}
+
+// The lines of one input, and what they made. Lines are bytes: one that is not UTF-8 is a bad line like any other.
 #[derive(Drop)]
 struct Session<R> {
-    lines: Lines<R>,
+    lines: Split<BufReader<R>>,
     made: Made,
 }
 
 impl<R: Read + Drop> Session<R> {
-    // Lines while there is no host; the host that is asked for, unless there are no more.
-    fn answer_unhosted(&mut self, rt: &HostRuntime) -> io::Result<Option<NewHost>> {
-        for _ in 0..ROUNDS {
-            let Some(command) = self.lines.next_command(rt)? else {
-                return Ok(None);
-            };
-            match host_asked(rt, &command) {
-                Ok(Some(host)) => return Ok(Some(host)),
-                Ok(None) => self.made.answer(rt, command)?,
-                Err(error) => println!(rt; "error {error}")?,
-            }
-        }
-        Ok(None)
+    fn new(rt: &HostRuntime, input: R) -> io::Result<Session<R>> {
+        Ok(Session {
+            lines: BufReader::new(rt.alloc(), input)?.split(rt.alloc(), b'\n'),
+            made: Made::default(),
+        })
     }
 
-    // Lines to a host, until a visit is opened or another host is asked for.
-    fn wait<H: Host + TellsEntries>(
-        &mut self,
-        rt: &HostRuntime,
-        host: &mut H,
-    ) -> io::Result<Waited> {
-        for _ in 0..ROUNDS {
-            let Some(command) = self.lines.next_command(rt)? else {
-                return Ok(Waited::Next(None));
-            };
-            if is_call(&command)
-                && let Some((script, levels)) = self.made.ready()
-            {
-                return Ok(Waited::Open(script, levels, command));
-            }
-            match host_asked(rt, &command) {
-                Ok(Some(host)) => return Ok(Waited::Next(Some(host))),
-                Ok(None) => self.made.answer_with(rt, host, command)?,
-                Err(error) => println!(rt; "error {error}")?,
-            }
-        }
-        Ok(Waited::Next(None))
-    }
-
-    // Lines to a visit, until it is closed; is there more to come?
-    fn answer_visits<H: Host + TellsEntries>(
-        &mut self,
-        rt: &HostRuntime,
-        visit: &mut Visit<AnyRegime, H>,
-    ) -> io::Result<bool> {
-        for _ in 0..ROUNDS {
-            let Some(command) = self.lines.next_command(rt)? else {
-                return Ok(false);
-            };
-            if let Command::Close = command {
-                println!(rt; "closed")?;
-                return Ok(true);
-            }
-            answer_visit(rt, &mut self.made, visit, command)?;
-        }
-        Ok(false)
-    }
-
-    // A host and the visits that it is lent to, one after another.
-    fn serve<H: Host + TellsEntries + Drop>(
-        &mut self,
-        rt: &HostRuntime,
-        host: H,
-    ) -> io::Result<Option<NewHost>> {
-        let mut host = host;
-        for _ in 0..ROUNDS {
-            match self.wait(rt, &mut host)? {
-                Waited::Next(next) => return Ok(next),
-                Waited::Open(script, regime, command) => {
-                    let mut visit = Visit::open(script, regime, host);
-                    answer_first(rt, &mut self.made, &mut visit, command)?;
-                    let more = self.answer_visits(rt, &mut visit)?;
-                    let (_, _, back) = visit.end();
-                    host = back;
-                    if !more {
-                        return Ok(None);
-                    }
+    // Answers lines, until one asks for a host; the host, unless there are no more lines.
+    fn run<S: Stage>(&mut self, rt: &HostRuntime, stage: S) -> io::Result<Option<NewHost>> {
+        let mut stage = stage;
+        for line in &mut self.lines {
+            if let Some(command) = command_of(rt, line?.as_slice())? {
+                match stage.answer(rt, &mut self.made, command)? {
+                    ControlFlow::Continue(next) => stage = next,
+                    ControlFlow::Break(host) => return Ok(Some(host)),
                 }
             }
         }
         Ok(None)
     }
 
-    fn serve_slot(&mut self, rt: &HostRuntime) -> io::Result<Option<NewHost>> {
-        println!(rt; "host 16 capacity 32")?;
-        self.serve(rt, SlotHost::new())
-    }
-
-    fn serve_own(
+    // Lines to a host, until another is asked for.
+    fn serve<H: Host + TellsEntries + Drop, C: fmt::Display + Copy>(
         &mut self,
         rt: &HostRuntime,
-        host: HeapHost,
-        capacities: &[u16],
+        host: H,
+        capacity: C,
     ) -> io::Result<Option<NewHost>> {
-        println!(rt; "host {} capacity {}", host.count(), Capacities(capacities))?;
-        self.serve(rt, host)
+        tell_host(rt, &host, capacity)?;
+        self.run(rt, Hosted::Host(host))
     }
 
     fn serve_strip(
@@ -206,15 +247,17 @@ impl<R: Read + Drop> Session<R> {
         count: usize,
     ) -> io::Result<Option<NewHost>> {
         let host = StripHost::new(entries, count);
-        println!(rt; "host {} capacity {}", host.count(), host.capacity())?;
-        self.serve(rt, host)
+        let capacity = host.capacity();
+        self.serve(rt, host, capacity)
     }
 
-    // The host that was asked for, until another is.
-    fn round(&mut self, rt: &HostRuntime, host: NewHost) -> io::Result<Option<NewHost>> {
+    // The same of the host that was asked for.
+    fn serve_new(&mut self, rt: &HostRuntime, host: NewHost) -> io::Result<Option<NewHost>> {
         match host {
-            NewHost::Slot => self.serve_slot(rt),
-            NewHost::Own { host, capacities } => self.serve_own(rt, host, capacities.as_slice()),
+            NewHost::Slot => self.serve(rt, SlotHost::new(), SLOT_CAPACITY),
+            NewHost::Own { host, capacities } => {
+                self.serve(rt, host, Capacities(capacities.as_slice()))
+            }
             NewHost::Strip { count, entries } => {
                 let mut entries = entries;
                 self.serve_strip(rt, entries.as_mut_slice(), count)
@@ -229,19 +272,15 @@ pub struct Sessions;
 
 impl AnswersLines for Sessions {
     fn answer_lines<R: Read + Drop>(&mut self, rt: &HostRuntime, input: R) -> io::Result<()> {
-        let mut session = Session {
-            lines: Lines::new(rt, input)?,
-            made: Made {
-                script: None,
-                levels: None,
-            },
-        };
-        let mut next = session.answer_unhosted(rt)?;
-        for _ in 0..ROUNDS {
+        let mut session = Session::new(rt, input)?;
+        let mut next = session.run(rt, Unhosted)?;
+        // Counted, since the check wants to see that a loop ends, and no iterator gives the hosts: each is asked for by a
+        // line to the one before.
+        for _ in 0..HOSTS {
             let Some(host) = next else {
                 return Ok(());
             };
-            next = session.round(rt, host)?;
+            next = session.serve_new(rt, host)?;
         }
         Ok(())
     }

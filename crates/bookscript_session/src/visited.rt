@@ -8,7 +8,7 @@ use std::{fmt, io};
 use text::number::capped_byte;
 use tool::tell::{refuse, tell, tell_done};
 
-// What a copy did, in words.
+// What a copy did, in words. A struct of one field: a crate may not implement `Display` for a type of another crate.
 #[derive(Clone, Copy)]
 struct Acted(Act);
 
@@ -74,8 +74,16 @@ impl Tally {
 
 impl fmt::Display for Tally {
     fn fmt<W: fmt::Write>(&self, f: &mut fmt::Formatter<W>) -> fmt::Result {
-        write!(f, "moved {} nobody {}", self.moved, self.nobody)?;
-        write!(f, " refused {} sum {}", self.refused, self.sum)
+        let Tally {
+            moved,
+            nobody,
+            refused,
+            sum,
+        } = *self;
+        write!(
+            f,
+            "moved {moved} nobody {nobody} refused {refused} sum {sum}"
+        )
     }
 }
 

@@ -1,10 +1,10 @@
 // Reading and writing the largest file.
+use crate::runs::timed;
 use anyhow::anyhow;
 use reader::file::read_script;
-use refusal::Flaw;
+use refusal::{Fault, Flaw, Refusal};
 use script::accepted::Script;
 use script::parts::{Channel, Direction, Instruction};
-use std::time::Instant;
 use writer::file::write_script;
 
 const BYTES: usize = 1844;
@@ -16,6 +16,7 @@ fn largest() -> Result<Script, Flaw> {
         level: 15,
     };
     let mut instructions = [Instruction::Skip; 256];
+    // Each number is made of the one before.
     let mut number: i32 = 1;
     for instruction in instructions.iter_mut() {
         number = number.wrapping_mul(1_664_525);
@@ -24,67 +25,56 @@ fn largest() -> Result<Script, Flaw> {
     Script::new(16, &[channel; 16], &instructions)
 }
 
-fn last_number(script: &Script) -> i32 {
-    match script.instructions[255] {
-        Instruction::Set { target: _, number } => number,
-        _ => 0,
+// Reads the file with another last byte, and answers the last instruction's number, which ends with it.
+fn read_with(file: &mut [u8; BYTES], last: u8) -> Result<i32, Fault> {
+    file[BYTES - 1] = last;
+    let script = read_script(&*file)?;
+    match script.instructions().last() {
+        Some(Instruction::Set { target: _, number }) => Ok(*number),
+        _ => Ok(0),
     }
 }
 
-// Reads the file as often as is asked, each time with another last byte.
-fn read_often(file: &mut [u8; BYTES], times: u32) -> i32 {
-    let mut sum: i32 = 0;
-    let mut last: u8 = 0;
-    for _ in 0..times {
-        last = last.wrapping_add(1);
-        file[BYTES - 1] = last;
-        match read_script(&*file) {
-            Ok(script) => sum = sum.wrapping_mul(31).wrapping_add(last_number(&script)),
-            Err(_) => sum = sum.wrapping_mul(37),
-        }
-    }
-    sum
+// Writes the script, and answers the last byte.
+fn write_to(file: &mut [u8; BYTES], script: &Script) -> Result<i32, Refusal> {
+    write_script(script, &mut *file)?;
+    Ok(i32::from(file[BYTES - 1]))
 }
 
-// Writes the script as often as is asked.
-fn write_often(script: &Script, file: &mut [u8; BYTES], times: u32) -> i32 {
-    let mut sum: i32 = 0;
-    for _ in 0..times {
-        match write_script(script, &mut *file) {
-            Ok(_) => sum = sum
-                .wrapping_mul(31)
-                .wrapping_add(i32::from(file[BYTES - 1])),
-            Err(_) => sum = sum.wrapping_mul(37),
-        }
-    }
-    sum
-}
-
-// Runs a loop of that name over that many files, and tells its sum and its time.
-fn timed<F: FnOnce(u32) -> i32>(
+// Calls it that many times, with the low byte of each time's number, and tells its sum and its time.
+fn measure<E: Drop, F: FnMut(u8) -> Result<i32, E>>(
     rt: &HostRuntime,
     name: &str,
-    times: u32,
-    often: F,
+    times: usize,
+    call: F,
 ) -> anyhow::Result<()>
-    requires { F.IsAlwaysCallable often }
+    requires { F.IsAlwaysCallable call }
 {
-    let start = Instant::now(rt)?;
-    let sum = often(times);
-    let nanos = start.elapsed(rt)?.as_nanos();
+    let (sum, nanos) = timed(rt, || sum_of(times, call))?;
     println!(rt; "{name} {BYTES} bytes times {times} sum {sum}")?;
     eprintln!(rt; "{name} file - 16 {times} {nanos}")?;
     Ok(())
 }
 
-pub fn measure_files(rt: &HostRuntime, times: u32) -> anyhow::Result<()> {
+// What the calls answered, in order.
+fn sum_of<E: Drop, F: FnMut(u8) -> Result<i32, E>>(times: usize, call: F) -> i32
+    requires { F.IsAlwaysCallable call }
+{
+    let mut call = call;
+    let mut sum: i32 = 0;
+    for time in 1..=times {
+        let [low, ..] = time.to_le_bytes();
+        sum = match call(low) {
+            Ok(number) => sum.wrapping_mul(31).wrapping_add(number),
+            Err(_) => sum.wrapping_mul(37),
+        };
+    }
+    sum
+}
+
+pub fn measure_files(rt: &HostRuntime, times: usize) -> anyhow::Result<()> {
     let script = largest().map_err(|_| anyhow!("the largest script is not accepted"))?;
     let mut file = [0; BYTES];
-    timed(
-        rt,
-        "write",
-        times,
-        |times| write_often(&script, &mut file, times),
-    )?;
-    timed(rt, "read", times, |times| read_often(&mut file, times))
+    measure(rt, "write", times, |_| write_to(&mut file, &script))?;
+    measure(rt, "read", times, |last| read_with(&mut file, last))
 }

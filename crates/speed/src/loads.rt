@@ -1,7 +1,10 @@
 // What is run: a script, for how long, and how often the world comes by.
+ghost use Rattle.std.specs.Prelude.{◌≤◌};
+
 use refusal::Flaw;
 use script::accepted::Script;
 use script::parts::{Channel, Direction, Instruction, Operation};
+use std::fmt;
 
 #[derive(Clone, Copy)]
 pub enum Kind {
@@ -16,11 +19,12 @@ pub enum Kind {
 #[derive(Clone, Copy)]
 pub struct Load {
     pub script: Script,
-    pub visits: u32,
+    pub visits: usize,
     // Turns of each visit.
-    pub turns: u32,
-    // The world comes by before every so manieth turn.
-    pub pace: u32,
+    pub turns: usize,
+    // The world comes by before every so many turns.
+    pub pace: usize,
+    ghost paced: { 1 ≤ pace },
 }
 
 // Two channels of the lowest level and two of the highest, an in and an out of each.
@@ -109,19 +113,19 @@ fn exchanging(levels: u8) -> Result<Script, Flaw> {
     )
 }
 
-impl Kind {
-    pub fn name(self) -> &'static str {
-        match self {
+impl fmt::Display for Kind {
+    fn fmt<W: fmt::Write>(&self, f: &mut fmt::Formatter<W>) -> fmt::Result {
+        f.write_str(match self {
             Kind::Compute => "compute",
             Kind::Exchange => "exchange",
             Kind::Visits => "visits",
-        }
+        })
     }
 }
 
 impl Load {
     // The load of that kind with so many turns in all.
-    pub fn of(kind: Kind, levels: u8, turns: u32) -> Result<Load, Flaw> {
+    pub fn of(kind: Kind, levels: u8, turns: usize) -> Result<Load, Flaw> {
         match kind {
             Kind::Compute => Ok(Load {
                 script: computing(levels)?,

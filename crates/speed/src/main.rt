@@ -17,7 +17,7 @@ use runs::measure_host;
 use std::{env, io};
 
 // Turns of each run: a visit's whole budget if the first argument is `full`, or few, for the gate.
-fn turns_asked(rt: &HostRuntime) -> io::Result<u32> {
+fn turns_asked(rt: &HostRuntime) -> io::Result<usize> {
     let full = env::args(rt)?.skip(1).any(|word| word.as_str() == "full");
     Ok(if full { 1_000_000 } else { 50_000 })
 }

@@ -7,15 +7,29 @@ use engine::visit::Visit;
 use host::calls::Host;
 use page::ladder::Ladder;
 use regime::rules::Regime;
+use std::io;
 use std::time::Instant;
+
+// What the call answers, and how many nanoseconds it takes.
+pub fn timed<T: Drop, F: FnOnce() -> T>(rt: &HostRuntime, call: F) -> io::Result<(T, u128)>
+    requires { F.IsAlwaysCallable call }
+{
+    let start = Instant::now(rt)?;
+    let answer = call();
+    Ok((answer, start.elapsed(rt)?.as_nanos()))
+}
 
 // Takes everything from the channel.
 fn empty<H: Host>(host: &mut H, channel: u8) {
-    let Ok(held) = host.held(channel) else {
-        return;
-    };
-    for _ in 0..held {
+    for _ in 0..host.held(channel).unwrap_or(0) {
         let _ = host.take(channel);
+    }
+}
+
+// The same of each channel that the scripts have.
+fn empty_all<H: Host>(host: &mut H) {
+    for channel in 0..4 {
+        empty(host, channel);
     }
 }
 
@@ -27,19 +41,18 @@ fn come_by<R: Regime, H: Host>(visit: &mut Visit<R, H>, value: i32, tally: &mut 
     tally.collect(visit.collect(3));
 }
 
+fn take_turns<R: Regime, H: Host>(visit: &mut Visit<R, H>, turns: usize, tally: &mut Tally) {
+    for _ in 0..turns {
+        tally.turn(visit.turn());
+    }
+}
+
 // The turns of one visit.
 fn drive<R: Regime, H: Host>(visit: &mut Visit<R, H>, load: &Load, tally: &mut Tally) {
-    // Counted down, so that the turns that are timed have no division between them.
-    let mut wait: u32 = 0;
-    let mut value: i32 = 0;
-    for _ in 0..load.turns {
-        if wait == 0 {
-            wait = load.pace;
-            value = value.wrapping_add(1);
-            come_by(visit, value, tally);
-        }
-        wait = wait.saturating_sub(1);
-        tally.turn(visit.turn());
+    for (first, value) in (0..load.turns).step_by(load.pace).zip(1..=i32::MAX) {
+        come_by(visit, value, tally);
+        let left = load.turns.saturating_sub(first);
+        take_turns(visit, load.pace.min(left), tally);
     }
 }
 
@@ -48,9 +61,7 @@ fn run<R: Regime + Copy, H: Host + Drop>(load: &Load, regime: R, host: H) -> (Ta
     let mut tally = Tally::default();
     let mut host = host;
     for _ in 0..load.visits {
-        for channel in 0..4 {
-            empty(&mut host, channel);
-        }
+        empty_all(&mut host);
         let mut visit = Visit::open(load.script, regime, host);
         drive(&mut visit, load, &mut tally);
         let (_, _, back) = visit.end();
@@ -59,79 +70,74 @@ fn run<R: Regime + Copy, H: Host + Drop>(load: &Load, regime: R, host: H) -> (Ta
     (tally, host)
 }
 
-// A run that is measured: what stands in front of its counts and its time.
+// What is measured: one kind of load, with so many turns in all, over the host of that name.
 #[derive(Clone, Copy)]
-struct Row<'a> {
+struct Task<'a> {
     kind: Kind,
     host: &'a str,
-    regime: &'a str,
-    levels: u8,
-    turns: u32,
+    turns: usize,
 }
 
+// Runs it under the regime of that name, and tells the counts and the time.
 fn measure<R: Regime + Copy, H: Host + Drop>(
     rt: &HostRuntime,
-    row: Row<'_>,
+    task: Task<'_>,
+    name: &str,
     regime: R,
     host: H,
 ) -> anyhow::Result<H> {
-    let load = Load::of(row.kind, row.levels, row.turns).map_err(|_| anyhow!(
+    let Task {
+        kind,
+        host: host_name,
+        turns,
+    } = task;
+    let levels = regime.levels();
+    let load = Load::of(kind, levels, turns).map_err(|_| anyhow!(
         "a load's script is not accepted"
     ))?;
-    let start = Instant::now(rt)?;
-    let (tally, host) = run(&load, regime, host);
-    let nanos = start.elapsed(rt)?.as_nanos();
-    let kind = row.kind.name();
-    println!(rt; "{kind} {} {} {} {tally}", row.host, row.regime, row.levels)?;
-    eprintln!(rt;
-        "{kind} {} {} {} {} {nanos}",
-        row.host, row.regime, row.levels, row.turns
-    )?;
+    let ((tally, host), nanos) = timed(rt, || run(&load, regime, host))?;
+    println!(rt; "{kind} {host_name} {name} {levels} {tally}")?;
+    eprintln!(rt; "{kind} {host_name} {name} {levels} {turns} {nanos}")?;
     Ok(host)
 }
 
-// One kind of load under both regimes, with 2 to the power of `marks` levels.
+// The task under both regimes, with 2 to the power of `marks` levels.
 fn measure_levels<H: Host + Drop>(
     rt: &HostRuntime,
-    row: Row<'_>,
+    task: Task<'_>,
     marks: u8,
     host: H,
 ) -> anyhow::Result<H> {
-    let regime = Compartments::new(marks);
-    let levels = regime.levels();
-    let ladder = Row {
-        regime: "ladder",
-        levels,
-        ..row
-    };
-    let compartments = Row {
-        regime: "compartments",
-        levels,
-        ..row
-    };
-    let host = measure(rt, ladder, Ladder::new(levels), host)?;
-    measure(rt, compartments, regime, host)
+    let compartments = Compartments::new(marks);
+    let ladder = Ladder::new(compartments.levels());
+    let host = measure(rt, task, "ladder", ladder, host)?;
+    measure(rt, task, "compartments", compartments, host)
 }
 
-// Every load at 1, 2, 4, 8 and 16 levels over this host.
+// The task at 1, 2, 4, 8 and 16 levels.
+fn measure_task<H: Host + Drop>(rt: &HostRuntime, task: Task<'_>, host: H) -> anyhow::Result<H> {
+    let mut host = host;
+    for marks in 0..5 {
+        host = measure_levels(rt, task, marks, host)?;
+    }
+    Ok(host)
+}
+
+// Every load over this host.
 pub fn measure_host<H: Host + Drop>(
     rt: &HostRuntime,
     name: &str,
-    turns: u32,
+    turns: usize,
     host: H,
 ) -> anyhow::Result<()> {
     let mut host = host;
     for kind in [Kind::Compute, Kind::Exchange, Kind::Visits] {
-        for marks in 0..5 {
-            let row = Row {
-                kind,
-                host: name,
-                regime: "",
-                levels: 0,
-                turns,
-            };
-            host = measure_levels(rt, row, marks, host)?;
-        }
+        let task = Task {
+            kind,
+            host: name,
+            turns,
+        };
+        host = measure_task(rt, task, host)?;
     }
     Ok(())
 }

@@ -51,8 +51,15 @@ impl Tally {
 
 impl fmt::Display for Tally {
     fn fmt<W: fmt::Write>(&self, f: &mut fmt::Formatter<W>) -> fmt::Result {
-        write!(f, "moved {} nobody {}", self.moved, self.nobody)?;
-        write!(f, " fed {} collected {}", self.fed, self.collected)?;
-        write!(f, " refused {} sum {}", self.refused, self.sum)
+        let Tally {
+            moved,
+            nobody,
+            fed,
+            collected,
+            refused,
+            sum,
+        } = *self;
+        write!(f, "moved {moved} nobody {nobody} fed {fed}")?;
+        write!(f, " collected {collected} refused {refused} sum {sum}")
     }
 }
