@@ -97,7 +97,7 @@ impl Command {
         if let Some(verb) = VisitVerb::of(name) {
             return Command::visit(verb, words);
         }
-        // A test and no pattern: in a match's last arm the search does not see what the name is not.
+        // A test and no pattern: tried as a match, and in its last arm the search does not see what the name is not.
         if is_name(name, "host") {
             Command::host(words)
         } else {
