@@ -5,7 +5,6 @@
 use house::order_map::OrderMap;
 use house::{Refusal, Script, Visit, read_script};
 use own_host::lanes::HeapHost;
-use own_host::lanes::build::Unmade;
 use std::io;
 
 // Levels 0 and 1 are the publishers', 2 is the reader's. Channel 0 hears the first publisher and 1 the second; the script
@@ -19,13 +18,13 @@ const ROWS: [u16; 16] = [1, 2, 7, 0, 0, 0, 0, 0, 0, 0, 0, 0, 0, 0, 0, 0];
 // The channels' capacities: this host keeps them on the heap.
 const CAPACITIES: [usize; 5] = [4, 4, 2, 2, 2];
 
-// It is not made where memory is wanting.
-fn host(rt: &HostRuntime) -> Result<HeapHost, Unmade> {
+// Nothing where memory is wanting.
+fn host(rt: &HostRuntime) -> Option<HeapHost> {
     let mut host = HeapHost::new(rt.alloc());
     for capacity in CAPACITIES {
-        host.add(rt.alloc(), capacity, &[])?;
+        host.add(rt.alloc(), capacity, &[]).ok()?;
     }
-    Ok(host)
+    Some(host)
 }
 
 fn tell(rt: &HostRuntime, who: &str, answer: Result<i32, Refusal>) -> io::Result<()> {
@@ -51,7 +50,7 @@ fn serve(rt: &HostRuntime, script: Script, map: OrderMap, host: HeapHost) -> io:
 }
 
 fn main(rt: HostRuntime) -> io::Result<()> {
-    let Ok(host) = host(&rt) else {
+    let Some(host) = host(&rt) else {
         return println!(rt; "no memory");
     };
     let Ok(map) = OrderMap::new(3, ROWS) else {

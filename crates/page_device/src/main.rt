@@ -46,8 +46,10 @@ fn teach(rt: &HostRuntime, script: Script) -> io::Result<()> {
     // The report is sent on until there is no more of it. A channel holds at most 32 values: a `while` would have to show
     // that it ends.
     for _ in 0..32 {
-        let Ok(value) = visit.collect(3) else { break };
-        println!(rt; "report: {value}")?;
+        match visit.collect(3) {
+            Ok(value) => println!(rt; "report: {value}")?,
+            Err(_) => return Ok(()),
+        }
     }
     Ok(())
 }
