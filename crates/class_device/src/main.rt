@@ -20,17 +20,28 @@ const READERS: [(u8, &str); 4] = [
     (6, "child"),
 ];
 
-fn share(rt: &HostRuntime, script: Script) -> io::Result<()> {
-    let mut visit = Visit::open(script, Compartments::new(2), SlotHost::new());
-    for (channel, value) in [(0, 1), (1, 30), (2, 12)] {
+// What is said on which channel.
+const SAID: [(u8, i32); 3] = [(0, 1), (1, 30), (2, 12)];
+
+type Exercise = Visit<Compartments, SlotHost>;
+
+fn feed(rt: &HostRuntime, visit: &mut Exercise) -> io::Result<()> {
+    for (channel, value) in SAID {
         if let Err(refusal) = visit.feed(channel, value) {
             println!(rt; "channel {channel} refuses: {}", refusal.number())?;
         }
     }
-    // Each of the four levels comes up every fourth turn; eight instructions each.
+    Ok(())
+}
+
+// Each of the four levels comes up every fourth turn; eight instructions each.
+fn run(visit: &mut Exercise) {
     for _ in 0..32 {
         let _ = visit.turn();
     }
+}
+
+fn tell(rt: &HostRuntime, visit: &mut Exercise) -> io::Result<()> {
     for (channel, reader) in READERS {
         match visit.collect(channel) {
             Ok(value) => println!(rt; "{reader}: {value}")?,
@@ -38,6 +49,13 @@ fn share(rt: &HostRuntime, script: Script) -> io::Result<()> {
         }
     }
     Ok(())
+}
+
+fn share(rt: &HostRuntime, script: Script) -> io::Result<()> {
+    let mut visit = Visit::open(script, Compartments::new(2), SlotHost::new());
+    feed(rt, &mut visit)?;
+    run(&mut visit);
+    tell(rt, &mut visit)
 }
 
 fn main(rt: HostRuntime) -> io::Result<()> {

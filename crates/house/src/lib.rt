@@ -5,6 +5,8 @@ pub mod any_regime;
 pub mod order_map;
 
 pub use any_host::hosts;
+// Named one by one, as in the package below: a `pub use` has no glob, and names of a whole crate would lie one deeper, as
+// `house::class::Visit`.
 pub use class::{
     Act, Did, Fault, Host, Moved, Part, PlainRun, ReadySet, Record, Refusal, Regime, Script,
     Standing, Status, Visit, compartments, ladder, parts, read_script, slots, split_record,

@@ -5,6 +5,7 @@
 use house::order_map::OrderMap;
 use house::{Refusal, Script, Visit, read_script};
 use own_host::lanes::HeapHost;
+use own_host::lanes::build::Unmade;
 use std::io;
 
 // Levels 0 and 1 are the publishers', 2 is the reader's. Channel 0 hears the first publisher and 1 the second; the script
@@ -18,13 +19,18 @@ const ROWS: [u16; 16] = [1, 2, 7, 0, 0, 0, 0, 0, 0, 0, 0, 0, 0, 0, 0, 0];
 // The channels' capacities: this host keeps them on the heap.
 const CAPACITIES: [usize; 5] = [4, 4, 2, 2, 2];
 
-// Nothing where memory is wanting.
-fn host(rt: &HostRuntime) -> Option<HeapHost> {
+// What the publishers say: a channel and a value.
+const SAID: [(u8, i32); 2] = [(0, 5), (1, 70)];
+
+type Survey = Visit<OrderMap, HeapHost>;
+
+// It is not made where memory is wanting.
+fn host(rt: &HostRuntime) -> Result<HeapHost, Unmade> {
     let mut host = HeapHost::new(rt.alloc());
     for capacity in CAPACITIES {
-        host.add(rt.alloc(), capacity, &[]).ok()?;
+        host.add(rt.alloc(), capacity, &[])?;
     }
-    Some(host)
+    Ok(host)
 }
 
 fn tell(rt: &HostRuntime, who: &str, answer: Result<i32, Refusal>) -> io::Result<()> {
@@ -34,23 +40,33 @@ fn tell(rt: &HostRuntime, who: &str, answer: Result<i32, Refusal>) -> io::Result
     }
 }
 
-fn serve(rt: &HostRuntime, script: Script, map: OrderMap, host: HeapHost) -> io::Result<()> {
-    let mut visit = Visit::open(script, map, host);
-    for (channel, value) in [(0, 5), (1, 70)] {
+fn feed(rt: &HostRuntime, visit: &mut Survey) -> io::Result<()> {
+    for (channel, value) in SAID {
         if let Err(refusal) = visit.feed(channel, value) {
             println!(rt; "channel {channel} refuses: {}", refusal.number())?;
         }
     }
-    for _ in 0..24 {
+    Ok(())
+}
+
+// Each of the three levels comes up every third turn; six instructions each.
+fn run(visit: &mut Survey) {
+    for _ in 0..18 {
         let _ = visit.turn();
     }
+}
+
+fn serve(rt: &HostRuntime, script: Script, map: OrderMap, host: HeapHost) -> io::Result<()> {
+    let mut visit = Visit::open(script, map, host);
+    feed(rt, &mut visit)?;
+    run(&mut visit);
     tell(rt, "first publisher", visit.collect(2))?;
     tell(rt, "second publisher", visit.collect(3))?;
     tell(rt, "reader", visit.collect(4))
 }
 
 fn main(rt: HostRuntime) -> io::Result<()> {
-    let Some(host) = host(&rt) else {
+    let Ok(host) = host(&rt) else {
         return println!(rt; "no memory");
     };
     let Ok(map) = OrderMap::new(3, ROWS) else {

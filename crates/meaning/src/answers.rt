@@ -79,7 +79,8 @@ impl Status {
         }
     }
 
-    // The channel that is lacking a value or space, or 0 where none is.
+    // The channel that is lacking a value or space. 0 where none is lacked, by the rules of a question's answer: the status
+    // tells which is meant.
     pub fn channel(self) -> u8
         ensures { result ≡ channel_lacked self }
     {

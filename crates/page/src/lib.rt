@@ -1,4 +1,5 @@
-// The package Page: the reader and writer of scripts, the engine, levels on a ladder, and a host in fixed memory.
+// The package Page: the reader and writer of scripts, the engine, the plain run, levels on a ladder, and a host in fixed
+// memory.
 #![tactic(auto)]
 
 pub mod ladder;

@@ -38,13 +38,9 @@ fn serve(rt: &HostRuntime, visit: &mut Lesson, channel: u8, value: i32) -> io::R
     Ok(())
 }
 
-fn teach(rt: &HostRuntime, script: Script) -> io::Result<()> {
-    let mut visit = Visit::open(script, Ladder::new(2), SlotHost::new());
-    for (channel, value) in DAY {
-        serve(rt, &mut visit, channel, value)?;
-    }
-    // The report is sent on until there is no more of it. A channel holds at most 32 values: a `while` would have to show
-    // that it ends.
+// The report is sent on until there is no more of it. A channel holds at most 32 values: a `while` would have to show that
+// it ends.
+fn report(rt: &HostRuntime, visit: &mut Lesson) -> io::Result<()> {
     for _ in 0..32 {
         match visit.collect(3) {
             Ok(value) => println!(rt; "report: {value}")?,
@@ -52,6 +48,14 @@ fn teach(rt: &HostRuntime, script: Script) -> io::Result<()> {
         }
     }
     Ok(())
+}
+
+fn teach(rt: &HostRuntime, script: Script) -> io::Result<()> {
+    let mut visit = Visit::open(script, Ladder::new(2), SlotHost::new());
+    for (channel, value) in DAY {
+        serve(rt, &mut visit, channel, value)?;
+    }
+    report(rt, &mut visit)
 }
 
 fn main(rt: HostRuntime) -> io::Result<()> {

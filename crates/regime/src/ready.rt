@@ -32,7 +32,7 @@ impl ReadySet {
     {
         // A test and an index: after a slice's `get_mut` a proof knows its length, and no element.
         if level < 16 {
-            self.flags[level as usize] = true;
+            self.flags[usize::from(level)] = true;
         }
     }
 

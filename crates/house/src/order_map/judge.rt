@@ -5,7 +5,8 @@ ghost use Rattle.class.specs.Compartments.{bit};
 ghost use Rattle.house.specs.Rows.{Clear, Itself, OneWay, OneWayFrom, Onward, OnwardFrom, OnwardThrough, RowClear, told};
 
 // Levels and which flows to which: bit a of row b says that level a flows to level b. A row for each level that there can
-// be, since the order map that holds them is `Copy` and allocates nothing.
+// be, since the order map that holds them is `Copy` and allocates nothing. A level is a `u8` with its bound in the
+// contract: `(0..levels)` gives numbers, and a type of levels would be made and taken apart at each.
 #[derive(Clone, Copy)]
 pub(crate) struct Table {
     pub(crate) levels: u8,
@@ -28,7 +29,7 @@ impl Table {
         requires { (a < 16) × (b < 16) }
         ensures { result ≡ told self.now.rows a b }
     {
-        (self.rows[b as usize] >> a) % 2 == 1
+        (self.rows[usize::from(b)] >> a) % 2 == 1
     }
 
     // No one in row `b` at or beyond the number of levels, and none at all where `b` is no level.
@@ -38,7 +39,7 @@ impl Table {
     {
         let n = self.levels;
         let from = if b < n { n } else { 0 };
-        is_blank(self.rows[b as usize], from)
+        is_blank(self.rows[usize::from(b)], from)
     }
 
     // The same in every row.
@@ -50,7 +51,7 @@ impl Table {
 
     // The three laws of order follow. Each is one line for each level that it speaks of, by another test: one function over
     // a test that is passed would be no shorter. Each depth is a method: the outer `all` is proved from its contract, and a
-    // closure within a closure would have none. The levels stand side by side, since a law is about as many.
+    // closure within a closure would have none. The levels stand side by side: a law speaks of one, two or three levels.
     fn flows_to_itself(&self, a: u8) -> bool
         requires { a < 16 }
         ensures { Decides result (told self.now.rows a a ≡ true) }

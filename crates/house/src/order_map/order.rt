@@ -42,7 +42,6 @@ impl Regime for OrderMap {
         a < n && b < n && self.table.tells(a, b)
     }
 
-    // As in compartments, a level that is not ready loses its turn.
     fn pick(&self, place: u8, ready: ReadySet) -> Option<u8> {
         ready.own_turn(self.table.levels, place)
     }

@@ -30,6 +30,7 @@ impl ChannelQueue for Queue {
         32 - self.len
     }
 
+    // A test and an index: of an array that `get_mut` lent no more is known than its length.
     fn push(&mut self, value: i32) -> Result<(), Refusal> {
         if self.len >= 32 {
             return Err(Refusal::Full);
@@ -41,10 +42,10 @@ impl ChannelQueue for Queue {
 
     // The others move up.
     fn pop(&mut self) -> Result<i32, Refusal> {
-        if self.len == 0 {
-            return Err(Refusal::Empty);
-        }
-        let value = self.values[0];
+        let value = self.values[..self.len]
+            .first()
+            .copied()
+            .ok_or(Refusal::Empty)?;
         self.values.rotate_left(1);
         self.len -= 1;
         Ok(value)
