@@ -1,7 +1,7 @@
 // The calls of a plain run.
 ghost use Rattle.std.specs.Prelude.{◌≡◌, ℕ, ◌<◌, true, false, []};
 ghost use Rattle.copies.specs.Held.{copy_of, tape_of};
-ghost use Rattle.host.specs.Channels.{IfRefused, on_ok, push_answer};
+ghost use Rattle.host.specs.Channels.{IfRefused, on_ok};
 ghost use Rattle.meaning.specs.Copies.{first, with_at};
 ghost use Rattle.meaning.specs.Programs.{program};
 ghost use Rattle.meaning.specs.Visits.{put_on};
@@ -21,23 +21,12 @@ fn judge(script: &Script, channel: u8) -> Result<(), Refusal>
     script.judge(channel, Direction::In)
 }
 
-// Whether the list can hold one value more.
-fn judge_room(list: &Tape) -> Result<(), Refusal>
-    ensures { result ≡ push_answer 64 (tape_of list.now) }
-{
-    if list.has_room() {
-        Ok(())
-    } else {
-        Err(Refusal::Full)
-    }
-}
-
 // The channel's list, empty if it has none.
 fn list_at(lists: &[Option<Tape>; 16], channel: u8) -> Tape
     ensures { tape_of result ≡ lists_in lists.now channel }
 {
     lists
-        .get(channel as usize)
+        .get(usize::from(channel))
         .copied()
         .flatten()
         .unwrap_or(Tape::empty())
@@ -95,8 +84,7 @@ impl PlainRun {
     {
         judge(&self.script, channel)?;
         let mut list = list_at(&self.lists, channel);
-        judge_room(&list)?;
-        list.push(value);
+        list.push(value)?;
         put(&mut self.lists, channel, list);
         Ok(())
     }
