@@ -13,6 +13,7 @@ mod moves;
 mod standing;
 mod steps;
 
+// A definition over `Visit<R, H>` cannot name what the traits say of R and H, so each contract hands it order and channels.
 #[derive(Drop)]
 pub struct Visit<R: Regime, H: Host> {
     script: Script,
