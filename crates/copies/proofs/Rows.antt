@@ -6,8 +6,10 @@ use Rattle.std.specs.Option.{IfSome, is_some, option_copied}
 use Rattle.std.proofs.lemmas.Bool.{lt-ltb, ltb-true, ltb-false}
 use Rattle.std.proofs.lemmas.Option.{slice_get_past, slice_get_read}
 use Rattle.host.proofs.Lists.{at_is, at_set}
+use Rattle.script.specs.declared.parts.Instruction.{Instruction}
 use Rattle.meaning.specs.Copies.{Copy, first, nth, with_at}
-use Rattle.copies.specs.Held.{Moved, Stepped, assigns, reads, can_assign, can_read, can_step, copies_of, copy_in, may_assign, may_read, may_step, steps_in, steps_of}
+use Rattle.copies.specs.Held.{Moved, Stepped, assigns, reads, can_assign, can_compute, can_go_on, can_read, can_step, copies_of, copy_in, may_assign, may_compute, may_go_on, may_read, may_step, steps_in, steps_of}
+use Rattle.copies.specs.Computed.{computes, goes_on}
 use Rattle.copies.specs.declared.table.Copies.{Copies}
 use Rattle.copies.specs.declared.table.LevelCopy.{LevelCopy}
 
@@ -37,21 +39,27 @@ module _ (t : Copies) (l : ℕ) (small : l < 16) (x : LevelCopy) (inside : l < l
   abbrev here : LevelCopy
   here = get_or t.copies l x
 
-  pub same_copy : copy_in here ≡ copies_of t l
+  same_copy : copy_in here ≡ copies_of t l
   same_copy = read_as copy_in t.copies l x first inside is
 
   same_steps : steps_in here ≡ steps_of t l
   same_steps = read_as steps_in t.copies l x 0 inside is
 
   -- may do what the table says that it may
-  pub steps_too : can_step here ≡ may_step t l
+  steps_too : can_step here ≡ may_step t l
   steps_too = ap (λ n. nat_lt n 4294967295) same_steps ∙ sym (ap (λ b. b && nat_lt (steps_of t l) 4294967295) (lt-ltb l 16 small))
+
+  pub goes_too : can_go_on here ≡ may_go_on t l
+  goes_too = ap₂ (λ (b : Bool) (c : Copy). b && goes_on c) steps_too same_copy
 
   pub assigns_too : (i : ℕ) → can_assign here i ≡ may_assign t l i
   assigns_too i = ap₂ (λ (b : Bool) (c : Copy). b && assigns c i) steps_too same_copy
 
   pub reads_too : (i k : ℕ) → can_read here i k ≡ may_read t l i k
   reads_too i k = ap₂ (λ (b : Bool) (c : Copy). b && reads c i k) steps_too same_copy
+
+  pub computes_too : (i : Instruction) → can_compute here i ≡ may_compute t l i
+  computes_too i = ap₂ (λ (b : Bool) (c : Copy). b && computes c i) steps_too same_copy
 
   -- and its step is the step of the table
   pub stepped : (y : LevelCopy) (f : Copy → Copy) → Moved here y (f (copy_in here)) → Stepped t (record { copies = set t.copies l y }) l (f (copies_of t l))

@@ -15,6 +15,10 @@ computed c end (Input t k) = c
 computed c end (Output a k) = c
 computed c end Stop = go_to c end
 
+-- there is a place after the copy's own
+abbrev pub goes_on : Copy → Bool
+goes_on c = nat_lt c.next 65535
+
 -- the register that it sets, if it sets one, is one of a copy's
 abbrev pub targets : Instruction → Bool
 targets Skip = true
@@ -27,4 +31,4 @@ targets Stop = true
 
 -- and there is a place after the copy's own
 abbrev pub computes : Copy → Instruction → Bool
-computes c i = targets i && nat_lt c.next 65535
+computes c i = targets i && goes_on c

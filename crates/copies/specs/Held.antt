@@ -2,7 +2,7 @@
 use Rattle.std.specs.Prelude.{◌≡◌, ℕ, suc, Bool, ◌&&◌, List, [], map, take, ℤ, pos, nat_lt, slice_index, slice_index_or}
 use Rattle.script.specs.declared.parts.Instruction.{Instruction}
 use Rattle.meaning.specs.Copies.{Copy, first, with_at}
-use Rattle.copies.specs.Computed.{computes}
+use Rattle.copies.specs.Computed.{computes, goes_on}
 use Rattle.copies.specs.declared.replica.Replica.{Replica}
 use Rattle.copies.specs.declared.table.Copies.{Copies}
 use Rattle.copies.specs.declared.table.LevelCopy.{LevelCopy}
@@ -15,7 +15,7 @@ copy_of r = record { next = r.next; registers = λ i. slice_index_or r.registers
 
 -- there is a register i, and a place after the copy's own
 abbrev pub assigns : Copy → ℕ → Bool
-assigns c i = nat_lt i 16 && nat_lt c.next 65535
+assigns c i = nat_lt i 16 && goes_on c
 
 -- and there is a channel k, and a position after the copy's own
 abbrev pub reads : Copy → ℕ → ℕ → Bool
@@ -44,7 +44,10 @@ pub record Moved (c d : LevelCopy) (x : Copy) : Type 0 where
 abbrev pub can_step : LevelCopy → Bool
 can_step c = nat_lt c.steps 4294967295
 
--- and it may set a register, read on in a tape, do an instruction that neither takes a value in nor gives one out
+-- and it may go on, set a register, read on in a tape, do an instruction that neither takes a value in nor gives one out
+abbrev pub can_go_on : LevelCopy → Bool
+can_go_on c = can_step c && goes_on (copy_in c)
+
 abbrev pub can_assign : LevelCopy → ℕ → Bool
 can_assign c i = can_step c && assigns (copy_in c) i
 
@@ -64,6 +67,9 @@ abbrev pub may_step : Copies → ℕ → Bool
 may_step t l = nat_lt l 16 && nat_lt (steps_of t l) 4294967295
 
 -- and it may do the same
+abbrev pub may_go_on : Copies → ℕ → Bool
+may_go_on t l = may_step t l && goes_on (copies_of t l)
+
 abbrev pub may_assign : Copies → ℕ → ℕ → Bool
 may_assign t l i = may_step t l && assigns (copies_of t l) i
 

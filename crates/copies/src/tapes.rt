@@ -3,10 +3,10 @@ ghost use Rattle.std.specs.Prelude.{◌≡◌, ◌≤◌, length};
 
 pub mod values;
 
-// The tape of one channel: the first `len` values count. The length is one byte, since what a visit takes in memory is
-// fixed and printed (an ArrayVec's is eight, and it is not Copy); so is the usize of a page's queue of 32, which has the
-// same form: one type for both would change one of the two sizes. Contracts see it by `tape_of` and not as a model, by which
-// a call that changes nothing would promise less: here it leaves also what does not count.
+// The tape of one channel: the first `len` values count. An array with its length beside it: an ArrayVec is not `Copy`, its
+// length has eight bytes, and the size of a visit is fixed. A page's queue has the same form with 32 places and a `usize`:
+// one type for both would change the size of one.
+// Contracts see it by `tape_of` and not by a model: where nothing changes, they promise it of the places past `len` too.
 #[derive(Clone, Copy)]
 pub struct Tape {
     values: [i32; 64],

@@ -2,7 +2,9 @@
 use Rattle.std.proofs.Common.{◌≡◌, ℕ, suc, ◌<◌, ◌≤◌, true, eqb, sym, subst, arith}
 use Rattle.std.proofs.lemmas.Bool.{cond_both, lt-ltb}
 use Rattle.meaning.specs.Copies.{with_at}
-use Rattle.copies.specs.Held.{copies_of, steps_of, may_step, may_assign, may_read}
+use Rattle.script.specs.declared.parts.Instruction.{Instruction}
+use Rattle.copies.specs.Computed.{targets}
+use Rattle.copies.specs.Held.{copies_of, steps_of, may_step, may_go_on, may_assign, may_read, may_compute}
 use Rattle.copies.specs.declared.table.Copies.{Copies}
 use Rattle.engine.specs.Courses.{MayStep, MayAssign, MayRead}
 use Rattle.engine.specs.declared.visit.Course.{Course}
@@ -13,6 +15,18 @@ module _ (c : Course) (l : ℕ) where
   steps_on may =
       let few : steps_of c.copies l < 4294967295 = omega (arith, may.counted, c.unspent) in
       rw (lt-ltb l 16 may.inside, lt-ltb (steps_of c.copies l) 4294967295 few)
+
+  -- and go on
+  pub goes_on : MayStep c l → (copies_of c.copies l).next < 256 → may_go_on c.copies l ≡ true
+  goes_on may running =
+      let early : (copies_of c.copies l).next < 65535 = omega (arith, running) in
+      rw (steps_on may, lt-ltb (copies_of c.copies l).next 65535 early)
+
+  -- and do an instruction that neither takes a value in nor gives one out
+  pub computes : (i : Instruction) → MayStep c l → targets i ≡ true → (copies_of c.copies l).next < 256 → may_compute c.copies l i ≡ true
+  computes i may sound running =
+      let early : (copies_of c.copies l).next < 65535 = omega (arith, running) in
+      rw (steps_on may, sound, lt-ltb (copies_of c.copies l).next 65535 early)
 
   -- and set a register
   pub assigns : (t : ℕ) → MayAssign c l t → may_assign c.copies l t ≡ true

@@ -13,8 +13,9 @@ mod moves;
 mod standing;
 mod steps;
 
-// Contracts read it by `frame_of` and `state_of` and not as a model, by which a refusal would promise less: it leaves the
-// host's own memory too.
+// A definition over `Visit<R, H>` cannot name what the traits say of R and H, so each contract hands it order and channels.
+// Contracts read a visit by `frame_of` and `state_of` and not as a model, by which a refusal would promise less: it leaves
+// the host's own memory too.
 #[derive(Drop)]
 pub struct Visit<R: Regime, H: Host> {
     script: Script,

@@ -1,7 +1,7 @@
 // What a copy holds, and how it goes on.
-ghost use Rattle.std.specs.Prelude.{◌≡◌, ◌+◌, ◌<◌, ◌≤◌, ◌&&◌, true, false, nat_lt};
+ghost use Rattle.std.specs.Prelude.{◌≡◌, ◌<◌, ◌≤◌, ◌&&◌, true, false, nat_lt};
 ghost use Rattle.meaning.specs.Copies.{assign, first, further, go_on, go_to};
-ghost use Rattle.copies.specs.Computed.{computed, computes, targets};
+ghost use Rattle.copies.specs.Computed.{computed, computes, goes_on};
 ghost use Rattle.copies.specs.Held.{assigns, copy_of, reads};
 
 use crate::arithmetic::apply;
@@ -30,18 +30,21 @@ impl Replica {
     pub fn register(&self, index: u8) -> i32
         ensures { result ≡ (copy_of self.now).registers index }
     {
-        self.registers.get(index as usize).copied().unwrap_or(0)
+        self.registers.get(usize::from(index)).copied().unwrap_or(0)
     }
 
     // 0 for a channel that there is not.
     pub fn position(&self, channel: u8) -> u8
         ensures { result ≡ (copy_of self.now).positions channel }
     {
-        self.positions.get(channel as usize).copied().unwrap_or(0)
+        self.positions
+            .get(usize::from(channel))
+            .copied()
+            .unwrap_or(0)
     }
 
     // Is there the register, and a place after the copy's own?
-    pub(crate) fn may_assign(&self, target: u8) -> bool
+    fn may_assign(&self, target: u8) -> bool
         ensures { result ≡ assigns (copy_of self.now) target }
     {
         target < 16 && self.next < u16::MAX
@@ -55,7 +58,7 @@ impl Replica {
     }
 
     // Is there all that a read takes?
-    pub(crate) fn may_read(&self, target: u8, channel: u8) -> bool
+    fn may_read(&self, target: u8, channel: u8) -> bool
         ensures { result ≡ reads (copy_of self.now) target channel }
     {
         self.may_assign(target) && self.may_go_further(channel)
@@ -67,25 +70,33 @@ impl Replica {
         self.next = next;
     }
 
-    // The copy goes to the instruction after its own. At the last place it stays.
-    pub fn go_on(&mut self)
-        ensures moved { (copy_of self.old).next < 65535 → copy_of self.new ≡ go_on (copy_of self.old) }
-        ensures last { 65535 ≤ (copy_of self.old).next → self.new ≡ self.old }
+    // The copy goes to the instruction after its own. What may not be done changes nothing; whether it was done is answered,
+    // here and below.
+    pub fn go_on(&mut self) -> bool
+        ensures answer { result ≡ goes_on (copy_of self.old) }
+        ensures done { goes_on (copy_of self.old) ≡ true → copy_of self.new ≡ go_on (copy_of self.old) }
+        ensures kept { goes_on (copy_of self.old) ≡ false → self.new ≡ self.old }
     {
-        self.next = self.next.saturating_add(1);
+        let Some(after) = self.next.checked_add(1) else {
+            return false;
+        };
+        self.next = after;
+        true
     }
 
-    // The value goes to the register, and the copy goes on. A register that there is not, or a place that has none after
-    // it, changes nothing.
-    pub fn assign(&mut self, target: u8, value: i32)
-        ensures stored { target < 16 → self.old.next < 65535 → copy_of self.new ≡ assign (copy_of self.old) target value }
-        ensures kept { 16 ≤ target → self.new ≡ self.old }
-        ensures last { 65535 ≤ self.old.next → self.new ≡ self.old }
+    // The value goes to the register, and the copy goes on.
+    pub fn assign(&mut self, target: u8, value: i32) -> bool
+        ensures answer { result ≡ assigns (copy_of self.old) target }
+        ensures done { assigns (copy_of self.old) target ≡ true → copy_of self.new ≡ assign (copy_of self.old) target value }
+        ensures kept { assigns (copy_of self.old) target ≡ false → self.new ≡ self.old }
     {
-        if self.may_assign(target) {
-            self.registers[target as usize] = value;
-            self.next += 1;
+        if !self.may_assign(target) {
+            return false;
         }
+        // A test and an index: of an array that `get_mut` lent no more is known than its length.
+        self.registers[usize::from(target)] = value;
+        self.next += 1;
+        true
     }
 
     // The position in the channel's tape moves on by one.
@@ -95,24 +106,26 @@ impl Replica {
         ensures last { 255 ≤ (copy_of self.old).positions channel → self.new ≡ self.old }
     {
         if self.may_go_further(channel) {
-            self.positions[channel as usize] += 1;
+            // Here too a test and an index.
+            self.positions[usize::from(channel)] += 1;
         }
     }
 
-    // The value of a tape goes to the register, and position and copy go on. What may not be done changes nothing, here and
-    // below.
-    pub fn read(&mut self, target: u8, channel: u8, value: i32)
-        ensures done { target < 16 → (copy_of self.old).next < 65535 → channel < 16 → (copy_of self.old).positions channel < 255 → copy_of self.new ≡ assign (further (copy_of self.old) channel) target value }
+    // The value of a tape goes to the register, and position and copy go on.
+    pub fn read(&mut self, target: u8, channel: u8, value: i32) -> bool
+        ensures answer { result ≡ reads (copy_of self.old) target channel }
+        ensures done { reads (copy_of self.old) target channel ≡ true → copy_of self.new ≡ assign (further (copy_of self.old) channel) target value }
         ensures kept { reads (copy_of self.old) target channel ≡ false → self.new ≡ self.old }
     {
-        if self.may_read(target, channel) {
-            self.further(channel);
-            self.assign(target, value);
+        if !self.may_read(target, channel) {
+            return false;
         }
+        self.further(channel);
+        self.assign(target, value)
     }
 
     // Is there the register that the instruction sets, if it sets one, and a place after the copy's own?
-    pub(crate) fn may_compute(&self, instruction: Instruction) -> bool
+    fn may_compute(&self, instruction: Instruction) -> bool
         ensures { result ≡ computes (copy_of self.now) instruction }
     {
         match instruction {
@@ -123,12 +136,13 @@ impl Replica {
     }
 
     // An instruction that neither takes a value in nor gives one out, in a script that ends at that place.
-    pub fn compute(&mut self, instruction: Instruction, end: u16)
-        ensures done { targets instruction ≡ true → (copy_of self.old).next < 65535 → copy_of self.new ≡ computed (copy_of self.old) end instruction }
+    pub fn compute(&mut self, instruction: Instruction, end: u16) -> bool
+        ensures answer { result ≡ computes (copy_of self.old) instruction }
+        ensures done { computes (copy_of self.old) instruction ≡ true → copy_of self.new ≡ computed (copy_of self.old) end instruction }
         ensures kept { computes (copy_of self.old) instruction ≡ false → self.new ≡ self.old }
     {
         if !self.may_compute(instruction) {
-            return;
+            return false;
         }
         match instruction {
             Instruction::Skip => self.go_on(),
@@ -140,17 +154,21 @@ impl Replica {
                 second,
             } => {
                 let value = apply(operation, self.register(first), self.register(second));
-                self.assign(target, value);
+                self.assign(target, value)
             }
             Instruction::Jump { first, place } => {
                 if self.register(first) == 0 {
-                    self.go_on();
+                    self.go_on()
                 } else {
                     self.go_to(place);
+                    true
                 }
             }
-            Instruction::Input { .. } | Instruction::Output { .. } => {}
-            Instruction::Stop => self.go_to(end),
+            Instruction::Input { .. } | Instruction::Output { .. } => true,
+            Instruction::Stop => {
+                self.go_to(end);
+                true
+            }
         }
     }
 }

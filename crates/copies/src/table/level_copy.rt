@@ -1,15 +1,15 @@
 // A copy that counts its own steps. What may not be done changes nothing.
-ghost use Rattle.std.specs.Prelude.{◌≡◌, ◌<◌, true, false};
-ghost use Rattle.meaning.specs.Copies.{assign, first, further, go_to};
-ghost use Rattle.copies.specs.Computed.{computed, targets};
-ghost use Rattle.copies.specs.Held.{Moved, can_assign, can_compute, can_read, can_step, copy_in};
+ghost use Rattle.std.specs.Prelude.{◌≡◌, true, false};
+ghost use Rattle.meaning.specs.Copies.{assign, first, further, go_on};
+ghost use Rattle.copies.specs.Computed.{computed};
+ghost use Rattle.copies.specs.Held.{Moved, can_assign, can_compute, can_go_on, can_read, can_step, copy_in};
 
 use crate::replica::Replica;
 use crate::table::LevelCopy;
 use script::parts::Instruction;
 
-// Four calls of one form, each with another test and another step: one function over them would take both as closures, and
-// its contract would be longer than they are.
+// Four calls of one form, each with another step: one function over them would take the step as a closure, and its contract
+// would be longer than they are.
 impl LevelCopy {
     // A copy as it begins, and no step done.
     pub(crate) fn first() -> LevelCopy
@@ -29,13 +29,12 @@ impl LevelCopy {
         self.steps < u32::MAX
     }
 
-    // The copy goes to an instruction, in one step.
-    pub(crate) fn go_to(&mut self, next: u16)
-        ensures done { can_step self.old ≡ true → Moved self.old self.new (go_to (copy_in self.old) next) }
-        ensures kept { can_step self.old ≡ false → self.new ≡ self.old }
+    // The copy goes to the instruction after its own, in one step.
+    pub(crate) fn go_on(&mut self)
+        ensures done { can_go_on self.old ≡ true → Moved self.old self.new (go_on (copy_in self.old)) }
+        ensures kept { can_go_on self.old ≡ false → self.new ≡ self.old }
     {
-        if self.can_step() {
-            self.copy.go_to(next);
+        if self.can_step() && self.copy.go_on() {
             self.steps += 1;
         }
     }
@@ -45,8 +44,7 @@ impl LevelCopy {
         ensures done { can_assign self.old target ≡ true → Moved self.old self.new (assign (copy_in self.old) target value) }
         ensures kept { can_assign self.old target ≡ false → self.new ≡ self.old }
     {
-        if self.can_step() && self.copy.may_assign(target) {
-            self.copy.assign(target, value);
+        if self.can_step() && self.copy.assign(target, value) {
             self.steps += 1;
         }
     }
@@ -56,19 +54,17 @@ impl LevelCopy {
         ensures done { can_read self.old target channel ≡ true → Moved self.old self.new (assign (further (copy_in self.old) channel) target value) }
         ensures kept { can_read self.old target channel ≡ false → self.new ≡ self.old }
     {
-        if self.can_step() && self.copy.may_read(target, channel) {
-            self.copy.read(target, channel, value);
+        if self.can_step() && self.copy.read(target, channel, value) {
             self.steps += 1;
         }
     }
 
     // An instruction that neither takes a value in nor gives one out, in one step.
     pub(crate) fn compute(&mut self, instruction: Instruction, end: u16)
-        ensures done { can_step self.old ≡ true → targets instruction ≡ true → (copy_in self.old).next < 65535 → Moved self.old self.new (computed (copy_in self.old) end instruction) }
+        ensures done { can_compute self.old instruction ≡ true → Moved self.old self.new (computed (copy_in self.old) end instruction) }
         ensures kept { can_compute self.old instruction ≡ false → self.new ≡ self.old }
     {
-        if self.can_step() && self.copy.may_compute(instruction) {
-            self.copy.compute(instruction, end);
+        if self.can_step() && self.copy.compute(instruction, end) {
             self.steps += 1;
         }
     }

@@ -1,16 +1,17 @@
 // The copy at a level, and its own steps.
-ghost use Rattle.std.specs.Prelude.{◌≡◌, ℕ, suc, ◌<◌, true, false};
-ghost use Rattle.meaning.specs.Copies.{assign, first, further, go_to};
-ghost use Rattle.copies.specs.Computed.{computed, targets};
-ghost use Rattle.copies.specs.Held.{Stepped, copies_of, may_assign, may_compute, may_read, may_step, steps_of};
+ghost use Rattle.std.specs.Prelude.{◌≡◌, ℕ, suc, true, false};
+ghost use Rattle.meaning.specs.Copies.{assign, first, further, go_on};
+ghost use Rattle.copies.specs.Computed.{computed};
+ghost use Rattle.copies.specs.Held.{Stepped, copies_of, may_assign, may_compute, may_go_on, may_read, steps_of};
 
 use crate::table::{Copies, LevelCopy};
 use script::parts::Instruction;
 
 // Copies are asked and changed where they stand: to copy one out and store it back costs more than a turn does. They are
-// changed by `copies[level]`, since of an array that was lent by `get_mut` no more is known than its length. One function
-// for the four tests of a level would take the step as a closure, and its contract (what may be called, what that leaves,
-// that the others stay) be longer than the tests. What a step takes are fields of an instruction, another set in each.
+// changed by `copies[level as usize]`, since of an array that was lent by `get_mut` no more is known than its length, and an
+// index by `usize::from` costs each answer a step more. One function for the four tests of a level would take the step as a
+// closure, and its contract (what may be called, what that leaves, that the others stay) be longer than the tests. What a
+// step takes are fields of an instruction, another set in each.
 impl Copies {
     // Every copy as it begins, and no step done.
     pub fn new() -> Copies
@@ -28,7 +29,7 @@ impl Copies {
         ensures { result ≡ (copies_of self.now level).next }
     {
         self.copies
-            .get(level as usize)
+            .get(usize::from(level))
             .map_or(0, |at| at.copy.next())
     }
 
@@ -36,7 +37,7 @@ impl Copies {
         ensures { result ≡ (copies_of self.now level).registers index }
     {
         self.copies
-            .get(level as usize)
+            .get(usize::from(level))
             .map_or(0, |at| at.copy.register(index))
     }
 
@@ -45,7 +46,7 @@ impl Copies {
         ensures { result ≡ (copies_of self.now level).positions channel }
     {
         self.copies
-            .get(level as usize)
+            .get(usize::from(level))
             .map_or(0, |at| at.copy.position(channel))
     }
 
@@ -53,16 +54,16 @@ impl Copies {
     pub fn steps(&self, level: u8) -> u32
         ensures { result ≡ steps_of self.now level }
     {
-        self.copies.get(level as usize).map_or(0, |at| at.steps)
+        self.copies.get(usize::from(level)).map_or(0, |at| at.steps)
     }
 
-    // The copy goes to an instruction, in one step. What may not be done changes nothing, here and below.
-    pub fn go_to(&mut self, level: u8, next: u16)
-        ensures done { may_step self.old level ≡ true → Stepped self.old self.new level (go_to (copies_of self.old level) next) }
-        ensures kept { may_step self.old level ≡ false → self.new ≡ self.old }
+    // The copy goes to the instruction after its own, in one step. What may not be done changes nothing, here and below.
+    pub fn go_on(&mut self, level: u8)
+        ensures done { may_go_on self.old level ≡ true → Stepped self.old self.new level (go_on (copies_of self.old level)) }
+        ensures kept { may_go_on self.old level ≡ false → self.new ≡ self.old }
     {
         if level < 16 {
-            self.copies[level as usize].go_to(next);
+            self.copies[level as usize].go_on();
         }
     }
 
@@ -88,7 +89,7 @@ impl Copies {
 
     // An instruction that neither takes a value in nor gives one out, in one step, in a script that ends at that place.
     pub fn compute(&mut self, level: u8, instruction: Instruction, end: u16)
-        ensures done { may_step self.old level ≡ true → targets instruction ≡ true → (copies_of self.old level).next < 65535 → Stepped self.old self.new level (computed (copies_of self.old level) end instruction) }
+        ensures done { may_compute self.old level instruction ≡ true → Stepped self.old self.new level (computed (copies_of self.old level) end instruction) }
         ensures kept { may_compute self.old level instruction ≡ false → self.new ≡ self.old }
     {
         if level < 16 {

@@ -82,13 +82,12 @@ impl<R: Regime, H: Host> Visit<R, H> {
         ensures { Acts R.Regime.order H.Host.channels H.Host.puts H.Host.takes self.old level (λ f s. plan_do f s level (s.copy level) (Output first channel)) result self.new }
     {
         let value = self.course.copies.register(level, first);
-        let next = self.course.copies.next(level) + 1;
         if self.level_of(channel) != level {
-            self.course.go_to(level, next);
+            self.course.go_on(level);
             return Some(Act::Withheld { channel, value });
         }
         self.host.put(channel, value).ok()?;
-        self.course.go_to(level, next);
+        self.course.go_on(level);
         Some(Act::Wrote { channel, value })
     }
 

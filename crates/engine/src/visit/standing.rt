@@ -14,13 +14,14 @@ use regime::ready::ReadySet;
 use regime::rules::Regime;
 use script::parts::Instruction;
 
+// What these may rely on is asked as in `moves`: no invariant, since a visit that does not fit is a visit too.
 impl<R: Regime, H: Host> Visit<R, H> {
     // The level of a channel of the script.
     pub(crate) fn level_of(&self, channel: u8) -> u8
         requires { channel < 16 }
         ensures { result ≡ level_of (frame_of R.Regime.order H.Host.channels self.now) channel }
     {
-        self.script.channels[channel as usize].level
+        self.script.channels[usize::from(channel)].level
     }
 
     // Does the host hold a value on the channel? This and the next ask the host two questions; what they share is std's
@@ -104,7 +105,7 @@ impl<R: Regime, H: Host> Visit<R, H> {
     fn place(&self) -> u8
         ensures { result ≡ self.now.course.turns % self.now.script.levels }
     {
-        (self.course.turns % self.script.levels as u32) as u8
+        (self.course.turns % u32::from(self.script.levels)) as u8
     }
 
     // Who moves next.

@@ -2,7 +2,7 @@
 ghost use Rattle.std.specs.Prelude.{◌≡◌, ℕ, suc, ◌<◌, true, [], length};
 ghost use Rattle.copies.specs.Computed.{computed, targets};
 ghost use Rattle.copies.specs.Held.{copies_of, steps_of, tapes_of};
-ghost use Rattle.meaning.specs.Copies.{assign, first, further, go_to};
+ghost use Rattle.meaning.specs.Copies.{assign, first, further, go_on};
 ghost use Rattle.meaning.specs.declared.answers.Act.TheVariants.{Inner, Took};
 ghost use Rattle.engine.specs.Courses.{MayAssign, MayRead, MayStep, Went};
 
@@ -36,17 +36,18 @@ impl Course {
         self.turns += 1;
     }
 
-    // The copy goes to an instruction, in one step.
-    #[tactic(auto, using(crate::proofs::Allowed::steps_on, crate::proofs::Allowed::paced))]
-    pub(crate) fn go_to(&mut self, level: u8, next: u16)
-        requires { MayStep self.old level }
-        ensures { Went self.old self.new level Inner (go_to (copies_of self.old.copies level) next) }
+    // The copy goes to the instruction after its own, in one step.
+    #[tactic(auto, using(crate::proofs::Allowed::goes_on, crate::proofs::Allowed::paced))]
+    pub(crate) fn go_on(&mut self, level: u8)
+        requires may { MayStep self.old level }
+        requires running { (copies_of self.old.copies level).next < 256 }
+        ensures { Went self.old self.new level Inner (go_on (copies_of self.old.copies level)) }
     {
-        self.copies.go_to(level, next);
+        self.copies.go_on(level);
     }
 
     // The copy does an instruction that neither takes a value in nor gives one out, in one step.
-    #[tactic(auto, using(crate::proofs::Allowed::steps_on, crate::proofs::Allowed::paced))]
+    #[tactic(auto, using(crate::proofs::Allowed::computes, crate::proofs::Allowed::paced))]
     pub(crate) fn compute(&mut self, level: u8, instruction: Instruction, end: u16)
         requires may { MayStep self.old level }
         requires sound { targets instruction ≡ true }

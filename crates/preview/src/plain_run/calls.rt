@@ -1,11 +1,11 @@
 // The calls of a plain run.
-ghost use Rattle.std.specs.Prelude.{◌≡◌, ℕ, ◌<◌, true, false, []};
-ghost use Rattle.copies.specs.Held.{copy_of, tape_of};
+ghost use Rattle.std.specs.Prelude.{◌≡◌, ℕ, true, false, [], ◌∷◌, ◌++◌, is_some};
+ghost use Rattle.copies.specs.Held.{copy_of};
 ghost use Rattle.host.specs.Channels.{IfRefused, on_ok, push_answer};
 ghost use Rattle.meaning.specs.Copies.{first, with_at};
 ghost use Rattle.meaning.specs.Programs.{program};
 ghost use Rattle.meaning.specs.Visits.{put_on};
-ghost use Rattle.preview.specs.Views.{add_answer, give_answer, given_in, given_of, lists_in, lists_of};
+ghost use Rattle.preview.specs.Views.{add_answer, give_answer, given_of, list_in, lists_of};
 
 use crate::plain_run::PlainRun;
 use copies::replica::Replica;
@@ -21,39 +21,27 @@ fn judge(script: &Script, channel: u8) -> Result<(), Refusal>
     script.judge(channel, Direction::In)
 }
 
-// Whether the list can hold one value more.
-fn judge_room(list: &Tape) -> Result<(), Refusal>
-    ensures { result ≡ push_answer 64 (tape_of list.now) }
+// There is a list, empty if there was none.
+fn begin(list: &mut Option<Tape>)
+    ensures given { is_some list.new ≡ true }
+    ensures kept { list_in list.new ≡ list_in list.old }
 {
-    if list.has_room() {
-        Ok(())
-    } else {
-        Err(Refusal::Full)
-    }
+    list.get_or_insert(Tape::empty());
 }
 
-// The channel's list, empty if it has none.
-fn list_at(lists: &[Option<Tape>; 16], channel: u8) -> Tape
-    ensures { tape_of result ≡ lists_in lists.now channel }
+// The list, empty if there was none, gets a value more.
+fn push(list: &mut Option<Tape>, value: i32) -> Result<(), Refusal>
+    ensures answer { result ≡ push_answer 64 (list_in list.old) }
+    ensures given { is_some list.new ≡ true }
+    ensures after { list_in list.new ≡ on_ok result (list_in list.old ++ (value ∷ [])) (list_in list.old) }
+    ensures refused { IfRefused result (list.new ≡ list.old) }
 {
-    lists
-        .get(channel as usize)
-        .copied()
-        .flatten()
-        .unwrap_or(Tape::empty())
-}
-
-// The channel is given that list.
-fn put(lists: &mut [Option<Tape>; 16], channel: u8, list: Tape)
-    requires { channel < 16 }
-    ensures given { given_in lists.new ≡ with_at (given_in lists.old) channel true }
-    ensures lists { lists_in lists.new ≡ with_at (lists_in lists.old) channel (tape_of list) }
-{
-    lists[channel as usize] = Some(list);
+    list.get_or_insert(Tape::empty()).push(value)
 }
 
 // That the script stays, and that a refusal changes nothing, is said of each call for itself: no invariant can say it,
-// since one speaks of a run and not of the run before.
+// since one speaks of a run and not of the run before. A list is lent at an index by a cast: `usize::from` costs each answer
+// a step more.
 impl PlainRun {
     // A run as it begins, with every in channel shut.
     pub fn new(script: Script) -> PlainRun
@@ -79,8 +67,7 @@ impl PlainRun {
         ensures refused { IfRefused result (self.new ≡ self.old) }
     {
         judge(&self.script, channel)?;
-        let list = list_at(&self.lists, channel);
-        put(&mut self.lists, channel, list);
+        begin(&mut self.lists[channel as usize]);
         Ok(())
     }
 
@@ -94,11 +81,7 @@ impl PlainRun {
         ensures refused { IfRefused result (self.new ≡ self.old) }
     {
         judge(&self.script, channel)?;
-        let mut list = list_at(&self.lists, channel);
-        judge_room(&list)?;
-        list.push(value);
-        put(&mut self.lists, channel, list);
-        Ok(())
+        push(&mut self.lists[channel as usize], value)
     }
 
     // Where the run is: its next instruction, registers and positions.

@@ -22,6 +22,8 @@ fn read(list: Option<Tape>, copy: &mut Replica, target: u8, channel: u8) -> Did
     ensures after { (w : ℕ → List ℤ) → plain_of copy.new (written_after result w) ≡ plain_read (plain_of copy.old w) target channel (input_in list copy.old channel) }
 {
     let position = copy.position(channel);
+    // Not by `Source::of`: what it promises is of a host too, and each promise here then stays open without a lemma of every
+    // case.
     match list {
         Some(list) if position < 64 => match list.value(position) {
             Some(value) => {
@@ -60,7 +62,7 @@ impl PlainRun {
             None => Did::Ended,
             Some(Instruction::Input { target, channel }) => {
                 read(
-                    self.lists[channel as usize],
+                    self.lists[usize::from(channel)],
                     &mut self.copy,
                     target,
                     channel,

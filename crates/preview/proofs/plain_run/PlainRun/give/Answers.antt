@@ -1,14 +1,22 @@
-use Rattle.std.proofs.Common.{◌≡◌, ℕ, List, ℤ, ◌∙◌}
+use Rattle.std.proofs.Common.{rules, ◌<◌, length, [], true, false, is_some, ◌∙◌, refl}
 use mathlib.Core.Path.{fun_ext}
 use Rattle.host.proofs.Lists.{stays}
-use Rattle.meaning.specs.Copies.{with_at}
-use Rattle.preview.specs.Views.{lists_of}
+use Rattle.copies.proofs.Rows.{changes, read_as}
+use Rattle.preview.specs.Views.{list_in, lists_of}
 use Rattle.preview.proofs.plain_run.PlainRun.give.Goals as goal
 
--- lists of which one gets the values that it has
-unchanged : (list : ℕ → List ℤ) (k : ℕ) (vs : List ℤ) → vs ≡ list k → with_at list k vs ≡ list
-unchanged list k vs e = fun_ext (stays list k vs e)
+pub returns-clause-given : goal.returns-clause-given
+returns-clause-given c =
+    let ls = c.args.self.now.lists in
+    let k = c.args.channel in
+    let inside : k < length ls = search rules in
+    changes is_some ls k _ true false inside c.begin.ensures.given
 
 -- the channel keeps its values
 pub returns-clause-lists : goal.returns-clause-lists
-returns-clause-lists c = c.put.ensures.lists ∙ unchanged (lists_of c.args.self.now) _ _ c.list_at-list.ensures
+returns-clause-lists c =
+    let ls = c.args.self.now.lists in
+    let k = c.args.channel in
+    let inside : k < length ls = search rules in
+    let here = read_as list_in ls k _ [] inside c.index-self-channel.is in
+    changes list_in ls k _ _ [] inside refl ∙ fun_ext (stays (lists_of c.args.self.now) k _ (c.begin.ensures.kept ∙ here))
