@@ -28,7 +28,7 @@ fn check_channel(site: Site, levels: u8, code: Field, level: Field) -> Result<Di
 {
     check_zeros(site, &[code, level])?;
     let direction = from_number(code.number()).ok_or(site.fault(Refusal::Range, code.byte))?;
-    check_below(site, level, levels as u32)?;
+    check_below(site, level, u32::from(levels))?;
     Ok(direction)
 }
 

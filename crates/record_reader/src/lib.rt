@@ -4,3 +4,4 @@
 pub mod channel;
 pub mod instruction;
 mod kind;
+mod record;
