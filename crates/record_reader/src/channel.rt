@@ -42,9 +42,9 @@ pub fn read_channel<'a>(
     ensures shrinks { Shrinks bytes.now result }
     ensures is { Is (read_record channel_widths (channel_rules levels) channel_of site bytes.now) result }
 {
-    let [map, rest @ ..] = bytes else {
-        return Err(site.fault(Refusal::Short, site.length));
-    };
+    let (map, rest) = bytes
+        .split_first()
+        .ok_or(site.fault(Refusal::Short, site.length))?;
     if *map >= 4 {
         return Err(site.fault(Refusal::Map, site.map_at));
     }

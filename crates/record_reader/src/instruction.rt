@@ -157,9 +157,9 @@ impl<'c> InstructionReader<'c> {
         ensures shrinks { Shrinks bytes.now result }
         ensures is { Is (read_record instruction_widths (instruction_rules self.entry.channels.now self.entry.count) instruction_of site bytes.now) result }
     {
-        let [map, rest @ ..] = bytes else {
-            return Err(site.fault(Refusal::Short, site.length));
-        };
+        let (map, rest) = bytes
+            .split_first()
+            .ok_or(site.fault(Refusal::Short, site.length))?;
         if *map >= 128 {
             return Err(site.fault(Refusal::Map, site.map_at));
         }
