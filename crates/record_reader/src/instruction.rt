@@ -1,5 +1,5 @@
 // Instruction records.
-ghost use Rattle.std.specs.Prelude.{◌≡◌, ◌<◌, ◌++◌, map as each, length, IfOk};
+ghost use Rattle.std.specs.Prelude.{◌≡◌, ◌++◌, map as each, IfOk};
 ghost use Rattle.format.specs.Encoding.{instruction_widths};
 ghost use Rattle.format.specs.Reading.{instruction_of, read_fields, read_record};
 ghost use Rattle.format.specs.Rules.{instruction_rules, kind_rules, not_zero, range_rules, suits, value_of};
@@ -7,9 +7,10 @@ ghost use Rattle.field.specs.Outcomes.{Is, Keeps, Shrinks};
 ghost use Rattle.record_reader.specs.Kinds.{kind_number};
 ghost use Rattle.record_reader.specs.Listed.{Lists, listed};
 
+use crate::cursor::Cursor;
 use crate::kind::Kind;
 use crate::record::{KnownRecord, RecordFields};
-use field::{check_below, check_used, check_zeros, has_bit, read_field};
+use field::{check_below, check_used, check_zeros};
 use format::layout::{Field, Site};
 use refusal::{Fault, Refusal};
 use script::build::is_directed;
@@ -33,17 +34,17 @@ impl RecordFields {
 }
 
 // All fields that the map announces, one after another. They have names and widths of their own, so this is no loop.
-fn read_fields<'a>(site: Site, map: u8, rest: &'a [u8]) -> Result<(RecordFields, &'a [u8]), Fault>
-    ensures shrinks { Shrinks rest.now result }
-    ensures is { Lists (read_fields site instruction_widths map rest.now) result }
+fn read_fields<'a>(rest: Cursor<'a>) -> Result<(RecordFields, &'a [u8]), Fault>
+    ensures shrinks { Shrinks rest.entry.bytes.now result }
+    ensures is { Lists (read_fields rest.entry.site instruction_widths rest.entry.map rest.entry.bytes.now) result }
 {
-    let (kind, rest) = read_field::<u8>(site, has_bit(map, 0), rest)?;
-    let (target, rest) = read_field::<u8>(site, has_bit(map, 1), rest)?;
-    let (first, rest) = read_field::<u8>(site, has_bit(map, 2), rest)?;
-    let (second, rest) = read_field::<u8>(site, has_bit(map, 3), rest)?;
-    let (number, rest) = read_field::<u32>(site, has_bit(map, 4), rest)?;
-    let (place, rest) = read_field::<u16>(site, has_bit(map, 5), rest)?;
-    let (channel, rest) = read_field::<u8>(site, has_bit(map, 6), rest)?;
+    let (kind, rest) = rest.field::<u8>(0)?;
+    let (target, rest) = rest.field::<u8>(1)?;
+    let (first, rest) = rest.field::<u8>(2)?;
+    let (second, rest) = rest.field::<u8>(3)?;
+    let (number, rest) = rest.field::<u32>(4)?;
+    let (place, rest) = rest.field::<u16>(5)?;
+    let (channel, rest) = rest.field::<u8>(6)?;
     Ok((
         RecordFields {
             kind,
@@ -54,7 +55,7 @@ fn read_fields<'a>(site: Site, map: u8, rest: &'a [u8]) -> Result<(RecordFields,
             place,
             channel,
         },
-        rest,
+        rest.bytes,
     ))
 }
 
@@ -157,13 +158,18 @@ impl<'c> InstructionReader<'c> {
         ensures shrinks { Shrinks bytes.now result }
         ensures is { Is (read_record instruction_widths (instruction_rules self.entry.channels.now self.entry.count) instruction_of site bytes.now) result }
     {
-        let (map, rest) = bytes
+        let (map, bytes) = bytes
             .split_first()
             .ok_or(site.fault(Refusal::Short, site.length))?;
         if *map >= 128 {
             return Err(site.fault(Refusal::Map, site.map_at));
         }
-        let (fields, rest) = read_fields(site, *map, rest)?;
+        let rest = Cursor {
+            site,
+            map: *map,
+            bytes,
+        };
+        let (fields, rest) = read_fields(rest)?;
         let record = self.check_instruction(site, fields)?;
         Ok((record.instruction(), rest))
     }

@@ -23,10 +23,10 @@ parsed : (c : In_ok-fields) →
     read_record instruction_widths (instruction_rules c.args.self.channels.now c.args.self.count) instruction_of c.args.site c.args.bytes.now ≡ unless (broken (map (not_zero s) fs ++ instruction_rules c.args.self.channels.now c.args.self.count s fs)) (instruction_of fs, c.in_ok-fields.rest.now)
 parsed c =
     let own = instruction_rules c.args.self.channels.now c.args.self.count in
-    let front : c.args.bytes.now ≡ c.in_ok-map.map.now ∷ c.in_ok-map.rest.now = search rules in
+    let front : c.args.bytes.now ≡ c.in_ok-map.map.now ∷ c.in_ok-map.bytes.now = search rules in
     let small : c.in_ok-map.map.now < 128 = search rules in
     ap (read_record instruction_widths own instruction_of c.args.site) front
-    ∙ begun instruction_widths own instruction_of c.args.site c.in_ok-map.map.now c.in_ok-map.rest.now (listed c.in_ok-fields.fields) c.in_ok-fields.rest.now small c.in_ok-fields.ensures.is
+    ∙ begun instruction_widths own instruction_of c.args.site c.in_ok-map.map.now c.in_ok-map.bytes.now (listed c.in_ok-fields.fields) c.in_ok-fields.rest.now small c.in_ok-fields.ensures.is
 
 pub returns-in_err-record-clause-is : goal.returns-in_err-record-clause-is
 returns-in_err-record-clause-is c =
