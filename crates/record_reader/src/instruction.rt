@@ -125,7 +125,8 @@ pub struct InstructionReader<'c> {
 }
 
 impl<'c> InstructionReader<'c> {
-    // The other ranges, in their order; the record of a known kind that keeps them.
+    // The other ranges, in their order; the record of a known kind that keeps them. Kind and fields come as two, since that
+    // its cells are in range is a fact of the record.
     fn check_ranges(self, site: Site, kind: Kind, f: RecordFields) -> Result<KnownRecord, Fault>
         requires { kind_number kind ≡ value_of f.kind }
         ensures same { IfOk result (λ r. r.fields ≡ f) }
