@@ -62,7 +62,8 @@ pub fn has_bit(map: u8, k: u32) -> bool
     map.checked_shr(k).unwrap_or(0) % 2 == 1
 }
 
-// A number that a field holds, low byte first.
+// A number that a field holds, low byte first. A body for each type: `from_le_bytes` is a method of each, of an array of
+// its own size.
 pub trait Number {
     // How many bytes it takes.
     ghost width: { ℕ };
@@ -76,10 +77,8 @@ impl Number for u8 {
     ghost width = { 1 };
 
     fn cut(bytes: &[u8]) -> Option<(u32, &[u8])> {
-        let [a, after @ ..] = bytes else {
-            return None;
-        };
-        Some((u32::from(*a), after))
+        let (front, after) = bytes.split_first()?;
+        Some((u32::from(*front), after))
     }
 }
 
@@ -87,10 +86,8 @@ impl Number for u16 {
     ghost width = { 2 };
 
     fn cut(bytes: &[u8]) -> Option<(u32, &[u8])> {
-        let [a, b, after @ ..] = bytes else {
-            return None;
-        };
-        Some((u32::from(u16::from_le_bytes([*a, *b])), after))
+        let (front, after) = bytes.split_first_chunk()?;
+        Some((u32::from(u16::from_le_bytes(*front)), after))
     }
 }
 
@@ -98,10 +95,8 @@ impl Number for u32 {
     ghost width = { 4 };
 
     fn cut(bytes: &[u8]) -> Option<(u32, &[u8])> {
-        let [a, b, c, d, after @ ..] = bytes else {
-            return None;
-        };
-        Some((u32::from_le_bytes([*a, *b, *c, *d]), after))
+        let (front, after) = bytes.split_first_chunk()?;
+        Some((u32::from_le_bytes(*front), after))
     }
 }
 

@@ -51,51 +51,42 @@ impl<'a> Unread<'a> {
     fn short(self, part: Part) -> Fault
         ensures { result ≡ fault Short self.entry.end part }
     {
-        Fault {
-            refusal: Refusal::Short,
-            byte: self.end,
-            part,
-        }
+        self.site(part).fault(Refusal::Short, self.end)
     }
 
     // What comes next is no such part.
     fn wrong(self, refusal: Refusal, part: Part) -> Fault
         ensures { result ≡ fault refusal (self.entry.end - length self.entry.bytes.now) part }
     {
-        Fault {
-            refusal,
-            byte: self.place(),
-            part,
-        }
+        self.site(part).fault(refusal, self.place())
     }
 
-    // n or c, within its bounds.
+    // The number of levels or of channels, within its bounds.
     fn read_head(self, low: u8, high: u8) -> Result<(u8, Self), Fault>
         ensures bounds { IfOk result (λ x. (low ≤ x.0) × (x.0 ≤ high)) }
         ensures gives { Gives self.entry.end (read_head self.entry.end low high self.entry.bytes.now) result }
     {
-        let [b, bytes @ ..] = self.bytes else {
-            return Err(self.short(Part::Head));
-        };
+        let (b, bytes) = self.bytes.split_first().ok_or(self.short(Part::Head))?;
         if !(low..=high).contains(b) {
             return Err(self.wrong(Refusal::Head, Part::Head));
         }
         Ok((*b, self.up_to(bytes)))
     }
 
-    // m, in two bytes.
-    fn read_count(self) -> Result<(usize, Self), Fault>
+    // The number of instructions, in two bytes.
+    fn read_count(self) -> Result<(u16, Self), Fault>
         ensures bounds { IfOk result (λ x. Counted x.0) }
         ensures gives { Gives self.entry.end (read_count self.entry.end self.entry.bytes.now) result }
     {
-        let [a, b, bytes @ ..] = self.bytes else {
-            return Err(self.short(Part::Count));
-        };
-        let m = usize::from(u16::from_le_bytes([*a, *b]));
-        if !(1..=256).contains(&m) {
+        let (front, bytes) = self
+            .bytes
+            .split_first_chunk()
+            .ok_or(self.short(Part::Count))?;
+        let count = u16::from_le_bytes(*front);
+        if !(1..=256).contains(&count) {
             return Err(self.wrong(Refusal::Head, Part::Count));
         }
-        Ok((m, self.up_to(bytes)))
+        Ok((count, self.up_to(bytes)))
     }
 }
 
@@ -113,11 +104,12 @@ fn parse(bytes: &[u8]) -> Result<Script, Fault>
     let mut channels = [Channel::BLANK; 16];
     let reader = ChannelReader { levels };
     let unread = read_records(&reader, &mut channels[..channel_count], unread)?;
-    let (instruction_count, unread) = unread.read_count()?;
+    let (count, unread) = unread.read_count()?;
+    let instruction_count = usize::from(count);
     let mut instructions = [Instruction::Skip; 256];
     let reader = InstructionReader {
         channels: &channels[..channel_count],
-        count: instruction_count as u16,
+        count,
     };
     let unread = read_records(&reader, &mut instructions[..instruction_count], unread)?;
     if !unread.bytes.is_empty() {
@@ -132,8 +124,8 @@ fn parse(bytes: &[u8]) -> Result<Script, Fault>
     })
 }
 
-// The script whose file this is, or the first fault of a file that is no script's. Each byte is looked at a bounded
-// number of times.
+// The script whose file this is, or the first fault of a file that is no script's. Two functions, since `parse` is proved
+// against reading as a function, and this one against the relations that say which fault is the first.
 pub fn read_script(bytes: &[u8]) -> Result<Script, Fault>
     ensures reads { Reads bytes.now result }
     ensures back { ReadsBack bytes.now result }

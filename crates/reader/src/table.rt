@@ -11,7 +11,8 @@ use record_reader::instruction::InstructionReader;
 use refusal::{Fault, Part};
 use script::parts::{Channel, Instruction};
 
-// What reads the records of one kind.
+// What reads the records of one kind. Each reader makes the site and what is left by itself: where `read_records` does, a
+// reader has two facts and two functions in place of one each, and the loop an answer by hand.
 pub(crate) trait ReadRecord<T> {
     // What reading answers for the record with an index, at the front of what is left of a file of a length.
     ghost one: { Self → ℕ → ℕ → List ℕ → Result (T × List ℕ) Fault };

@@ -3,7 +3,7 @@ use Rattle.std.specs.Prelude.{◌≡◌, ℕ, List, [], ◌∷◌, Ok, Err, Resu
 use Rattle.std.specs.Borrow.{Bor}
 use Rattle.refusal.specs.declared.Fault.{Fault}
 use Rattle.format.specs.declared.layout.Field.{Field}
-use Rattle.record_reader.specs.declared.instruction.RecordFields.{RecordFields}
+use Rattle.record_reader.specs.declared.record.RecordFields.{RecordFields}
 
 abbrev pub listed : RecordFields → List Field
 listed f = f.kind ∷ f.target ∷ f.first ∷ f.second ∷ f.number ∷ f.place ∷ f.channel ∷ []

@@ -5,7 +5,8 @@ ghost use Rattle.format.specs.Reading.{channel_of, direction_of, read_record};
 ghost use Rattle.format.specs.Rules.{channel_rules, not_zero, value_of};
 ghost use Rattle.field.specs.Outcomes.{Is, Keeps, Shrinks};
 
-use field::{check_below, check_zeros, has_bit, read_field};
+use crate::cursor::Cursor;
+use field::{check_below, check_zeros};
 use format::layout::{Field, Site};
 use refusal::{Fault, Refusal};
 use script::parts::{Channel, Direction};
@@ -28,7 +29,7 @@ fn check_channel(site: Site, levels: u8, code: Field, level: Field) -> Result<Di
 {
     check_zeros(site, &[code, level])?;
     let direction = from_number(code.number()).ok_or(site.fault(Refusal::Range, code.byte))?;
-    check_below(site, level, levels as u32)?;
+    check_below(site, level, u32::from(levels))?;
     Ok(direction)
 }
 
@@ -42,20 +43,25 @@ pub fn read_channel<'a>(
     ensures shrinks { Shrinks bytes.now result }
     ensures is { Is (read_record channel_widths (channel_rules levels) channel_of site bytes.now) result }
 {
-    let [map, rest @ ..] = bytes else {
-        return Err(site.fault(Refusal::Short, site.length));
-    };
+    let (map, bytes) = bytes
+        .split_first()
+        .ok_or(site.fault(Refusal::Short, site.length))?;
     if *map >= 4 {
         return Err(site.fault(Refusal::Map, site.map_at));
     }
-    let (code, rest) = read_field::<u8>(site, has_bit(*map, 0), rest)?;
-    let (level, rest) = read_field::<u8>(site, has_bit(*map, 1), rest)?;
+    let rest = Cursor {
+        site,
+        map: *map,
+        bytes,
+    };
+    let (code, rest) = rest.field::<u8>(0)?;
+    let (level, rest) = rest.field::<u8>(1)?;
     let direction = check_channel(site, levels, code, level)?;
     Ok((
         Channel {
             direction,
             level: level.number() as u8,
         },
-        rest,
+        rest.bytes,
     ))
 }

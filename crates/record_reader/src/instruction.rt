@@ -1,31 +1,20 @@
 // Instruction records.
-ghost use Rattle.std.specs.Prelude.{◌≡◌, ◌<◌, ◌++◌, map as each, length, IfOk, OnOk};
+ghost use Rattle.std.specs.Prelude.{◌≡◌, ◌++◌, map as each, IfOk};
 ghost use Rattle.format.specs.Encoding.{instruction_widths};
 ghost use Rattle.format.specs.Reading.{instruction_of, read_fields, read_record};
 ghost use Rattle.format.specs.Rules.{instruction_rules, kind_rules, not_zero, range_rules, suits, value_of};
-ghost use Rattle.field.specs.Outcomes.{Is, Keeps, Reads, Shrinks};
+ghost use Rattle.field.specs.Outcomes.{Is, Keeps, Shrinks};
 ghost use Rattle.record_reader.specs.Kinds.{kind_number};
 ghost use Rattle.record_reader.specs.Listed.{Lists, listed};
 
+use crate::cursor::Cursor;
 use crate::kind::Kind;
-use field::{check_below, check_used, check_zeros, has_bit, read_field};
+use crate::record::{KnownRecord, RecordFields};
+use field::{check_below, check_used, check_zeros};
 use format::layout::{Field, Site};
 use refusal::{Fault, Refusal};
 use script::build::is_directed;
 use script::parts::{Channel, Direction, Instruction};
-
-// The fields of an instruction record as they stand in the file. The site is not one of them: it is known before they are
-// read, and for a channel's fields too.
-#[derive(Clone, Copy)]
-pub(crate) struct RecordFields {
-    pub kind: Field,
-    pub target: Field,
-    pub first: Field,
-    pub second: Field,
-    pub number: Field,
-    pub place: Field,
-    pub channel: Field,
-}
 
 impl RecordFields {
     // Lowest map bit first.
@@ -45,18 +34,17 @@ impl RecordFields {
 }
 
 // All fields that the map announces, one after another. They have names and widths of their own, so this is no loop.
-fn read_fields<'a>(site: Site, map: u8, rest: &'a [u8]) -> Result<(RecordFields, &'a [u8]), Fault>
-    ensures shrinks { Shrinks rest.now result }
-    ensures small { Reads result (λ f. (value_of f.channel < 256) × (value_of f.place < 65536)) }
-    ensures is { Lists (read_fields site instruction_widths map rest.now) result }
+fn read_fields<'a>(rest: Cursor<'a>) -> Result<(RecordFields, &'a [u8]), Fault>
+    ensures shrinks { Shrinks rest.entry.bytes.now result }
+    ensures is { Lists (read_fields rest.entry.site instruction_widths rest.entry.map rest.entry.bytes.now) result }
 {
-    let (kind, rest) = read_field::<u8>(site, has_bit(map, 0), rest)?;
-    let (target, rest) = read_field::<u8>(site, has_bit(map, 1), rest)?;
-    let (first, rest) = read_field::<u8>(site, has_bit(map, 2), rest)?;
-    let (second, rest) = read_field::<u8>(site, has_bit(map, 3), rest)?;
-    let (number, rest) = read_field::<u32>(site, has_bit(map, 4), rest)?;
-    let (place, rest) = read_field::<u16>(site, has_bit(map, 5), rest)?;
-    let (channel, rest) = read_field::<u8>(site, has_bit(map, 6), rest)?;
+    let (kind, rest) = rest.field::<u8>(0)?;
+    let (target, rest) = rest.field::<u8>(1)?;
+    let (first, rest) = rest.field::<u8>(2)?;
+    let (second, rest) = rest.field::<u8>(3)?;
+    let (number, rest) = rest.field::<u32>(4)?;
+    let (place, rest) = rest.field::<u16>(5)?;
+    let (channel, rest) = rest.field::<u8>(6)?;
     Ok((
         RecordFields {
             kind,
@@ -67,7 +55,7 @@ fn read_fields<'a>(site: Site, map: u8, rest: &'a [u8]) -> Result<(RecordFields,
             place,
             channel,
         },
-        rest,
+        rest.bytes,
     ))
 }
 
@@ -97,35 +85,35 @@ fn is_suited(channels: &[Channel], kind: Kind, k: usize) -> bool
     }
 }
 
-// The instruction that checked fields make.
-fn instruction_from(kind: Kind, f: RecordFields) -> Instruction
-    requires known { kind_number kind ≡ value_of f.kind }
-    requires bounds { (value_of f.target < 16) × (value_of f.first < 16) × (value_of f.second < 16) }
-    requires small { (value_of f.channel < 256) × (value_of f.place < 65536) }
-    ensures { result ≡ instruction_of (listed f) }
-{
-    let target = f.target.number() as u8;
-    let first = f.first.number() as u8;
-    let channel = f.channel.number() as u8;
-    match kind {
-        Kind::Skip => Instruction::Skip,
-        Kind::Set => Instruction::Set {
-            target,
-            number: f.number.number().cast_signed(),
-        },
-        Kind::Compute(operation) => Instruction::Compute {
-            operation,
-            target,
-            first,
-            second: f.second.number() as u8,
-        },
-        Kind::Jump => Instruction::Jump {
-            first,
-            place: f.place.number() as u16,
-        },
-        Kind::Input => Instruction::Input { target, channel },
-        Kind::Output => Instruction::Output { first, channel },
-        Kind::Stop => Instruction::Stop,
+impl KnownRecord {
+    // The instruction that the fields make.
+    fn instruction(self) -> Instruction
+        ensures { result ≡ instruction_of (listed self.fields) }
+    {
+        let f = self.fields;
+        let target = f.target.number() as u8;
+        let first = f.first.number() as u8;
+        let channel = f.channel.number() as u8;
+        match self.kind {
+            Kind::Skip => Instruction::Skip,
+            Kind::Set => Instruction::Set {
+                target,
+                number: f.number.number().cast_signed(),
+            },
+            Kind::Compute(operation) => Instruction::Compute {
+                operation,
+                target,
+                first,
+                second: f.second.number() as u8,
+            },
+            Kind::Jump => Instruction::Jump {
+                first,
+                place: f.place.number() as u16,
+            },
+            Kind::Input => Instruction::Input { target, channel },
+            Kind::Output => Instruction::Output { first, channel },
+            Kind::Stop => Instruction::Stop,
+        }
     }
 }
 
@@ -137,33 +125,32 @@ pub struct InstructionReader<'c> {
 }
 
 impl<'c> InstructionReader<'c> {
-    // The other ranges, in their order.
-    fn check_ranges(self, site: Site, kind: Kind, f: RecordFields) -> Result<(), Fault>
+    // The other ranges, in their order; the record of a known kind that keeps them. Kind and fields come as two, since that
+    // its cells are in range is a fact of the record.
+    fn check_ranges(self, site: Site, kind: Kind, f: RecordFields) -> Result<KnownRecord, Fault>
         requires { kind_number kind ≡ value_of f.kind }
-        ensures bounds { OnOk result ((value_of f.target < 16) × (value_of f.first < 16) × (value_of f.second < 16)) }
+        ensures same { IfOk result (λ r. r.fields ≡ f) }
         ensures keeps { Keeps (range_rules self.entry.channels.now self.entry.count site (listed f)) result }
     {
         check_below(site, f.target, 16)?;
         check_below(site, f.first, 16)?;
         check_below(site, f.second, 16)?;
-        check_below(site, f.place, self.count as u32 + 1)?;
+        check_below(site, f.place, u32::from(self.count) + 1)?;
         if !is_suited(self.channels, kind, f.channel.number() as usize) {
             return Err(site.fault(Refusal::Range, f.channel.byte));
         }
-        Ok(())
+        Ok(KnownRecord { kind, fields: f })
     }
 
     // The rules of an instruction record, in their order: zeros first, then the kind, then the other ranges. Its answers are
     // by hand: the search does not see that one list of rules is the three lists in turn.
-    fn check_instruction(self, site: Site, f: RecordFields) -> Result<Kind, Fault>
-        ensures known { IfOk result (λ k. kind_number k ≡ value_of f.kind) }
-        ensures bounds { OnOk result ((value_of f.target < 16) × (value_of f.first < 16) × (value_of f.second < 16)) }
+    fn check_instruction(self, site: Site, f: RecordFields) -> Result<KnownRecord, Fault>
+        ensures same { IfOk result (λ r. r.fields ≡ f) }
         ensures keeps { Keeps (each (not_zero site) (listed f) ++ instruction_rules self.entry.channels.now self.entry.count site (listed f)) result }
     {
         check_zeros(site, &f.listed())?;
         let kind = check_kind(site, f)?;
-        self.check_ranges(site, kind, f)?;
-        Ok(kind)
+        self.check_ranges(site, kind, f)
     }
 
     // The instruction record of that site, at the front of `bytes`. Its two guards stand in reading a channel too: what a
@@ -172,14 +159,19 @@ impl<'c> InstructionReader<'c> {
         ensures shrinks { Shrinks bytes.now result }
         ensures is { Is (read_record instruction_widths (instruction_rules self.entry.channels.now self.entry.count) instruction_of site bytes.now) result }
     {
-        let [map, rest @ ..] = bytes else {
-            return Err(site.fault(Refusal::Short, site.length));
-        };
+        let (map, bytes) = bytes
+            .split_first()
+            .ok_or(site.fault(Refusal::Short, site.length))?;
         if *map >= 128 {
             return Err(site.fault(Refusal::Map, site.map_at));
         }
-        let (fields, rest) = read_fields(site, *map, rest)?;
-        let kind = self.check_instruction(site, fields)?;
-        Ok((instruction_from(kind, fields), rest))
+        let rest = Cursor {
+            site,
+            map: *map,
+            bytes,
+        };
+        let (fields, rest) = read_fields(rest)?;
+        let record = self.check_instruction(site, fields)?;
+        Ok((record.instruction(), rest))
     }
 }

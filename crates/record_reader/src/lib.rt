@@ -2,5 +2,7 @@
 #![tactic(auto)]
 
 pub mod channel;
+mod cursor;
 pub mod instruction;
 mod kind;
+mod record;

@@ -1,7 +1,9 @@
-use Rattle.std.proofs.Common.{◌≡◌, ◌++◌, map, None, ◌∙◌}
+use Rattle.std.proofs.Common.{◌≡◌, ◌++◌, List, map, None, Ok, Err, Result, ◌∙◌}
 use Rattle.std.proofs.lemmas.Result.{err_from_is_err_and}
-use Rattle.format.specs.Rules.{broken, not_zero, instruction_rules, kind_rules, range_rules}
+use Rattle.refusal.specs.declared.Fault.{Fault}
+use Rattle.format.specs.Rules.{Rule, broken, not_zero, instruction_rules, kind_rules, range_rules}
 use Rattle.format.proofs.Steps.{broken_stops, broken_append}
+use Rattle.field.specs.Outcomes.{Keeps}
 use Rattle.record_reader.specs.Listed.{listed}
 use Rattle.record_reader.proofs.instruction.InstructionReader.check_instruction.Goals as goal
 use Rattle.record_reader.proofs.instruction.InstructionReader.check_instruction.Goals.{In_ok-check_zeros}
@@ -34,11 +36,16 @@ returns-in_err-kind-clause-keeps c =
     let on = past_zeros (goal.at.returns-in_err-kind-clause-keeps c).In_ok-check_zeros in
     rw (p.1, p.2) (on ∙ broken_stops (kind_rules s fs) (range_rules c.args.self.channels.now c.args.self.count s fs) _ c.in_err-kind.ensures.keeps)
 
-pub returns-in_err-check_ranges-clause-keeps : goal.returns-in_err-check_ranges-clause-keeps
-returns-in_err-check_ranges-clause-keeps c =
-    let p = err_from_is_err_and c.from_residual-in_err-check_ranges.result c.from_residual-in_err-check_ranges.ensures.1 in
+-- lists of rules whose first broken rule is one
+decided : {X : Type 0} (rs ss : List Rule) (r : Result X Fault) → broken rs ≡ broken ss → Keeps ss r → Keeps rs r
+decided rs ss (Ok x) e h = e ∙ h
+decided rs ss (Err f) e h = e ∙ h
+
+pub returns-clause-keeps : goal.returns-clause-keeps
+returns-clause-keeps c =
     let s = c.args.site in
     let fs = listed c.args.f in
-    let on = past_zeros (goal.at.returns-in_err-check_ranges-clause-keeps c).In_ok-check_zeros in
-    let known = broken_append (kind_rules s fs) (range_rules c.args.self.channels.now c.args.self.count s fs) c.in_ok-kind.ensures.keeps in
-    rw (p.1, p.2) (on ∙ known ∙ c.in_err-check_ranges.ensures.keeps)
+    let ranges = range_rules c.args.self.channels.now c.args.self.count s fs in
+    let on = past_zeros (goal.at.returns-clause-keeps c).In_ok-check_zeros in
+    let known = broken_append (kind_rules s fs) ranges c.in_ok-kind.ensures.keeps in
+    decided (map (not_zero s) fs ++ instruction_rules c.args.self.channels.now c.args.self.count s fs) ranges c.check_ranges.result (on ∙ known) c.check_ranges.ensures.keeps
