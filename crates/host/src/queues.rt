@@ -34,8 +34,8 @@ pub trait ChannelQueue {
         ensures refused { IfRefused result (self.new ≡ self.old) };
 }
 
-// Below, the row stands first in each function, as `self` would: it is an array or a `Vec`, so no type of ours. Where no
-// capacity matters, a clause takes 0 for the channels that there are not.
+// Below, the row stands first in each function, as `self` would: it is an array or a `Vec`, and a trait for `[Q]` would say
+// no more than these functions. Where no capacity matters, a clause takes 0 for the channels that there are not.
 pub fn held<Q: ChannelQueue>(queues: &[Q], channel: u8) -> Result<usize, Refusal>
     ensures { result ≡ stored (queued Q.list Q.capacity 0 queues.now) channel }
 {
@@ -70,6 +70,7 @@ pub fn put<Q: ChannelQueue>(queues: &mut [Q], channel: u8, value: i32) -> Result
     put_at(queues, at, value)
 }
 
+// A function of its own, as `take_at` is: in one body with `place` the search leaves the clauses open.
 fn put_at<Q: ChannelQueue>(queues: &mut [Q], at: usize, value: i32) -> Result<(), Refusal>
     requires { at < length queues.old }
     ensures answer { (k : ℕ) → result ≡ put_answer (queued Q.list Q.capacity k queues.old) at }

@@ -44,10 +44,10 @@ impl StripHost<'_> {
     pub(crate) fn held_on(&self, channel: u8) -> Result<usize, Refusal>
         ensures { MatchResult result (λ n. (channel < self.now.count) × (n ≡ length (listed channel (in_use self.now))) × (n ≤ self.now.capacity)) (λ e. (e ≡ Channel) × (self.now.count ≤ channel)) }
     {
-        if channel >= self.count {
-            return Err(Refusal::Channel);
-        }
-        Ok(self.counts[channel as usize])
+        self.counts[..usize::from(self.count)]
+            .get(usize::from(channel))
+            .copied()
+            .ok_or(Refusal::Channel)
     }
 
     fn search(&self, channel: u8) -> Option<usize>
@@ -58,7 +58,8 @@ impl StripHost<'_> {
             .position(|entry| entry.channel == channel)
     }
 
-    // The place of the channel's first entry in use, or the number of those in use.
+    // The place of the channel's first entry in use. Where there is none, the number of those in use: `pop` is called only
+    // where there is one, so it needs no arm for none.
     fn find(&self, channel: u8) -> usize
         ensures first { result ≡ place channel (in_use self.now) }
         ensures within { 0 < length (listed channel (in_use self.now)) → result < self.now.len }
@@ -66,7 +67,7 @@ impl StripHost<'_> {
         self.search(channel).unwrap_or(self.len)
     }
 
-    // A function of its own, since its result's type says that the value fits.
+    // A function of its own: its result's type tells the proof of `pop` that the value has 32 bits.
     fn value_at(&self, at: usize) -> i32
         requires { at < self.now.len }
         ensures { result ≡ (slice_index_or (lent self.now) at none).value }
