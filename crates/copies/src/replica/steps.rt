@@ -70,8 +70,8 @@ impl Replica {
         self.next = next;
     }
 
-    // The copy goes to the instruction after its own. What may not be done changes nothing; whether it was done is answered,
-    // here and below.
+    // The copy goes to the instruction after its own. What may not be done changes nothing; a step answers whether it was
+    // done, here and below.
     pub fn go_on(&mut self) -> bool
         ensures answer { result ≡ goes_on (copy_of self.old) }
         ensures done { goes_on (copy_of self.old) ≡ true → copy_of self.new ≡ go_on (copy_of self.old) }
