@@ -9,10 +9,6 @@ use Rattle.reader.specs.declared.unread.Unread.{Unread}
 abbrev onto : {X : Type 0} → List X → Result (List X × List ℕ) Fault → Result (List X × List ℕ) Fault
 onto xs r = and_then r (λ y. Ok (xs ++ y.0, y.1))
 
-onto_nil : {X : Type 0} (r : Result (List X × List ℕ) Fault) → r ≡ onto [] r
-onto_nil (Ok y) = refl
-onto_nil (Err f) = refl
-
 onto_more : {X : Type 0} (xs : List X) (x : X) (r : Result (List X × List ℕ) Fault) → onto xs (and_then r (λ y. Ok (x ∷ y.0, y.1))) ≡ onto (xs ++ x ∷ []) r
 onto_more xs x (Ok y) = ap (λ l. Ok (l, y.1)) (sym (append_assoc xs (x ∷ []) y.0))
 onto_more xs x (Err f) = refl
