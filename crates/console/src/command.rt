@@ -44,11 +44,10 @@ impl Command {
         match Shape::of(words.word()?).ok_or(LineError::Shape)? {
             Shape::Ladder => Ok(Command::Ladder(words.number()?)),
             Shape::Compartments => Ok(Command::Compartments(words.number()?)),
-            Shape::Map => {
-                let levels = words.number()?;
-                let rows = words.rows()?;
-                Ok(Command::Map { levels, rows })
-            }
+            Shape::Map => Ok(Command::Map {
+                levels: words.number()?,
+                rows: words.rows()?,
+            }),
         }
     }
 
@@ -71,40 +70,36 @@ impl Command {
     }
 
     // The command of that verb, with the arguments that it takes from the words.
+    // Names apart from their words: the verb picks the reader, and each name stands once, for both consoles.
     pub fn of(verb: Verb, words: &mut Words) -> Result<Command, LineError>
         ensures { Takes request (asked verb (left words.old)) result (left words.new) }
     {
         match verb {
             Verb::Read => Ok(Command::Read(words.bytes()?)),
             Verb::Show => Ok(Command::Show(words.bytes()?)),
-            Verb::Split => {
-                let file = words.bytes()?;
-                let index = words.number()?;
-                Ok(Command::Split { file, index })
-            }
-            Verb::Write => {
-                let file = words.bytes()?;
-                let room = words.room()?;
-                Ok(Command::Write { file, room })
-            }
+            Verb::Split => Ok(Command::Split {
+                file: words.bytes()?,
+                index: words.number()?,
+            }),
+            Verb::Write => Ok(Command::Write {
+                file: words.bytes()?,
+                room: words.room()?,
+            }),
             Verb::List => Ok(Command::List(words.bytes()?)),
             Verb::Levels => Command::levels(words),
-            Verb::Flows => {
-                let from = words.number()?;
-                let to = words.number()?;
-                Ok(Command::Flows { from, to })
-            }
-            Verb::Pick => {
-                let place = words.number()?;
-                let mask = words.mask()?;
-                Ok(Command::Pick { place, mask })
-            }
+            Verb::Flows => Ok(Command::Flows {
+                from: words.number()?,
+                to: words.number()?,
+            }),
+            Verb::Pick => Ok(Command::Pick {
+                place: words.number()?,
+                mask: words.mask()?,
+            }),
             Verb::Host => Command::host(words),
-            Verb::Put => {
-                let channel = words.number()?;
-                let value = words.value()?;
-                Ok(Command::Put { channel, value })
-            }
+            Verb::Put => Ok(Command::Put {
+                channel: words.number()?,
+                value: words.value()?,
+            }),
             Verb::Take => Ok(Command::Take(words.number()?)),
             Verb::Count => Ok(Command::Count),
             Verb::Held => Ok(Command::Held(words.number()?)),

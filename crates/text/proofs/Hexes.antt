@@ -1,7 +1,9 @@
 -- Steps of the loops over hex text. Assumes nothing.
-use Rattle.std.proofs.Common.{◌≡◌, ℕ, ◌-◌, ◌≤◌, List, [], ◌∷◌, ◌++◌, length, get_or, take, drop, Some, Ok, Err, Result, sym, refl, ap, ◌∙◌, append_assoc, arith}
-use Rattle.std.proofs.lemmas.List.{take_rest}
+use Rattle.std.proofs.Common.{◌≡◌, ℕ, zero, suc, ◌+◌, ◌*◌, ◌/◌, ◌<◌, ◌≤◌, List, [], ◌∷◌, ◌++◌, length, get_or, drop, Some, None, Ok, Err, Option, Result, sym, refl, ap, ◌∙◌, append_assoc, append-nil, arith}
+use Rattle.std.proofs.lemmas.List.{drop_more, length-drop, nil_from_length}
+use Rattle.std.specs.Simd.{first_chunks}
 use Rattle.text.specs.declared.error.LineError.{LineError}
+use Rattle.text.specs.declared.error.LineError.TheVariants.{OddHex, HexDigit}
 use Rattle.text.specs.Hex.{before, byte_of, decoded}
 
 -- the bytes xs, and what the rest of the text gives after them
@@ -13,14 +15,57 @@ pub after_more : (xs : List ℕ) (b : ℕ) (r : Result (List ℕ) LineError) →
 after_more xs b (Ok ys) = ap Ok (sym (append_assoc xs (b ∷ []) ys))
 after_more xs b (Err e) = refl
 
--- a text of two digits and more
-pub decoded_pair : (t : List ℕ) → 2 ≤ length t → decoded t ≡ before (byte_of (get_or t 0 0) (get_or t 1 0)) (decoded (take (length t - 2) (drop 2 t)))
-decoded_pair [] h = absurd (omega arith)
-decoded_pair (x ∷ []) h = absurd (omega arith)
-decoded_pair (x ∷ y ∷ t) h = ap (λ r. before (byte_of x y) (decoded r)) (sym (take_rest (x ∷ y ∷ t) 2))
+-- the bytes of the pairs ps, and then of the text t
+abbrev pub paired : List (List ℕ) → List ℕ → Result (List ℕ) LineError
+paired [] t = decoded t
+paired (p ∷ ps) t = before (byte_of (get_or p 0 0) (get_or p 1 0)) (paired ps t)
 
--- one turn of `decode`: t begins with the digits of b
-pub decode_more : (t xs ys : List ℕ) (b : ℕ) (d : Result (List ℕ) LineError) → 2 ≤ length t → Some b ≡ byte_of (get_or t 0 0) (get_or t 1 0) → ys ≡ xs ++ b ∷ [] → after xs (decoded t) ≡ d → after ys (decoded (take (length t - 2) (drop 2 t))) ≡ d
-decode_more t xs ys b d long is items inv =
-    let rest = decoded (take (length t - 2) (drop 2 t)) in
-    ap (λ l. after l rest) items ∙ sym (after_more xs b rest) ∙ ap (λ o. after xs (before o rest)) is ∙ ap (after xs) (sym (decoded_pair t long)) ∙ inv
+-- a text is its pairs and what is left
+pub of_pairs : (k : ℕ) (t : List ℕ) → k * 2 ≤ length t → paired (first_chunks 2 k t) (drop (k * 2) t) ≡ decoded t
+of_pairs zero t h = refl
+of_pairs (suc k) [] h = absurd (omega arith)
+of_pairs (suc k) (x ∷ []) h = absurd (omega arith)
+of_pairs (suc k) (x ∷ y ∷ t) h =
+    let two : suc k * 2 ≡ suc (suc (k * 2)) = omega arith in
+    ap (λ n. paired (first_chunks 2 (suc k) (x ∷ y ∷ t)) (drop n (x ∷ y ∷ t))) two ∙ ap (before (byte_of x y)) (of_pairs k t (omega arith))
+
+after_nil : (r : Result (List ℕ) LineError) → after [] r ≡ r
+after_nil (Ok ys) = refl
+after_nil (Err e) = refl
+
+pub begins : (t u xs : List ℕ) (ps : List (List ℕ)) → xs ≡ [] → ps ≡ first_chunks 2 (length t / 2) t → u ≡ drop (length t / 2 * 2) t → after xs (paired ps u) ≡ decoded t
+begins t u xs ps none front back =
+    ap (λ l. after l (paired ps u)) none ∙ after_nil (paired ps u) ∙ ap (λ l. paired l u) front ∙ ap (paired (first_chunks 2 (length t / 2) t)) back ∙ of_pairs (length t / 2) t (omega arith)
+
+single : (t : List ℕ) → 0 < length t → length t < 2 → decoded t ≡ Err OddHex
+single [] some few = absurd (omega arith)
+single (c ∷ []) some few = refl
+single (c ∷ e ∷ t) some few = absurd (omega arith)
+
+module _ (ps : List (List ℕ)) (t xs : List ℕ) (i : ℕ) (d : Result (List ℕ) LineError) (inv : after xs (paired (drop i ps) t) ≡ d) where
+  abbrev pub at : Option ℕ
+  at = byte_of (get_or (get_or ps i []) 0 0) (get_or (get_or ps i []) 1 0)
+
+  here : i < length ps → after xs (before at (paired (drop (i + 1) ps) t)) ≡ d
+  here lt = ap (λ l. after xs (paired l t)) (sym (drop_more ps i [] lt)) ∙ inv
+
+  -- one turn of `decode`
+  pub more : (ys : List ℕ) (b : ℕ) → i < length ps → Some b ≡ at → ys ≡ xs ++ b ∷ [] → after ys (paired (drop (i + 1) ps) t) ≡ d
+  more ys b lt is items =
+      let rest = paired (drop (i + 1) ps) t in
+      ap (λ l. after l rest) items ∙ sym (after_more xs b rest) ∙ ap (λ o. after xs (before o rest)) is ∙ here lt
+
+  -- a pair that is no byte
+  pub none : i < length ps → None ≡ at → d ≡ Err HexDigit
+  none lt is = sym (ap (λ o. after xs (before o (paired (drop (i + 1) ps) t))) is ∙ here lt)
+
+  past : length ps ≤ i → after xs (decoded t) ≡ d
+  past le = ap (λ l. after xs (paired l t)) (sym (nil_from_length (drop i ps) (omega (arith, length-drop i ps)))) ∙ inv
+
+  -- no pair is left, and no digit
+  pub even : length ps ≤ i → length t ≡ 0 → d ≡ Ok xs
+  even le e = sym (past le) ∙ ap (λ l. after xs (decoded l)) (nil_from_length t e) ∙ ap Ok (append-nil xs)
+
+  -- no pair is left, and one digit is
+  pub odd : length ps ≤ i → 0 < length t → length t < 2 → d ≡ Err OddHex
+  odd le some few = sym (past le) ∙ ap (after xs) (single t some few)

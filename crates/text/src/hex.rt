@@ -27,10 +27,7 @@ fn digit(nibble: u8) -> char
 pub fn byte(high: u8, low: u8) -> Option<u8>
     ensures { result ≡ byte_of high low }
 {
-    match (nibble(high), nibble(low)) {
-        (Some(high), Some(low)) => Some(16 * high + low),
-        _ => None,
-    }
+    Some(16 * nibble(high)? + nibble(low)?)
 }
 
 // The two lower-case hex digits of a byte.
@@ -46,12 +43,9 @@ pub fn decode(heap: Global, text: &[u8]) -> Result<Vec<u8>, LineError>
     ensures { Gives vec_items (decoded text.now) result }
 {
     let mut bytes = Vec::new(heap);
-    let mut rest = text;
-    // By a pattern, which tells two digits, one that is left over, and none; pairs of `chunks_exact` would have to be indexed.
-    while let [high, low, after @ ..] = rest {
-        let b = byte(*high, *low).ok_or(LineError::HexDigit)?;
-        bytes.push(b)?;
-        rest = after;
+    let (pairs, rest) = text.as_chunks::<2>();
+    for [high, low] in pairs {
+        bytes.push(byte(*high, *low).ok_or(LineError::HexDigit)?)?;
     }
     if rest.is_empty() {
         Ok(bytes)
@@ -66,11 +60,11 @@ fn push_byte(text: &mut String, byte: u8) -> Result<(), AllocError>
 {
     let (high, low) = digits(byte);
     text.push(high)?;
-    text.push(low)?;
-    Ok(())
+    text.push(low)
 }
 
 // The hex text of bytes.
+// A text and no `Display`: it is proved to be read back; what a formatter writes is under no contract.
 pub fn encode(heap: Global, bytes: &[u8]) -> Result<String, AllocError>
     ensures { IfOk result (λ t. string_bytes t ≡ encoded bytes.now) }
 {

@@ -24,12 +24,9 @@ pub fn parse_line<C: Drop, F: FnOnce(&[u8], &mut Words) -> Result<C, LineError>>
     ensures { LineGives (Answers F.FnOnce read) (words_of line.now) result }
 {
     let mut words = Words::new(heap, line);
-    let Some(name) = words.next_word() else {
+    let Some(name) = words.next_word().filter(|name| !is_comment(name)) else {
         return Ok(None);
     };
-    if is_comment(name) {
-        return Ok(None);
-    }
     let command = read(name, &mut words)?;
     words.end()?;
     Ok(Some(command))

@@ -60,7 +60,7 @@ pub fn bytes_of(heap: Global, word: &[u8]) -> Result<Vec<u8>, LineError>
     }
 }
 
-// The word that stands for bytes.
+// The word that stands for bytes. A text and no `Display`, as `encode`.
 pub fn word_of(heap: Global, bytes: &[u8]) -> Result<String, AllocError>
     ensures { IfOk result (λ t. string_bytes t ≡ word_of bytes.now) }
 {
@@ -79,6 +79,7 @@ fn count_of(word: &[u8]) -> Result<usize, LineError>
 }
 
 // The same, of bytes to write to.
+// A test here and in `turns` of the session's console: a function of bound and error would be as long.
 fn room_of(word: &[u8]) -> Result<usize, LineError>
     ensures { result ≡ room_of word.now }
 {
@@ -97,7 +98,7 @@ fn mask_of(word: &[u8]) -> Result<usize, LineError>
     parse_hex(word).ok_or(LineError::Mask)
 }
 
-// The row of an order map that a word is.
+// The row of an order map that a word is. A chain, as `capacity_of` has: they differ in base, test and error.
 fn row_of(word: &[u8]) -> Result<u16, LineError>
     ensures { result ≡ row_of word.now }
 {
@@ -215,7 +216,7 @@ impl<'a> Words<'a> {
         ensures few { IfOk result (λ v. vec_len v ≤ 16) }
     {
         let mut entries = Vec::new(self.heap);
-        // Not `by_ref().take(16)`: what `take` promises says nothing of the words that are left after the 16th.
+        // `Words` is no iterator: what `take` of one promises says nothing of the words left after the 16th, which `end` has to see.
         for _ in 0..MOST_ENTRIES {
             let Some(word) = self.next_word() else {
                 return Ok(entries);
@@ -247,10 +248,6 @@ impl<'a> Words<'a> {
     pub fn end(&mut self) -> Result<(), LineError>
         ensures { result ≡ ended (left self.old) }
     {
-        // A match says both cases: no method makes an error of `Some`.
-        match self.next_word() {
-            Some(_) => Err(LineError::Extra),
-            None => Ok(()),
-        }
+        self.next_word().map_or(Ok(()), |_| Err(LineError::Extra))
     }
 }

@@ -1,5 +1,6 @@
 // The names of the commands.
-#![tactic(auto)]
+// `of` and no `TryFrom`: the error of a word that is no name differs by caller.
+#![tactic(auto, using(crate::proofs::Names::same_name, crate::proofs::Names::other_length, crate::proofs::Names::other_head))]
 
 ghost use Rattle.std.specs.Prelude.{◌≡◌};
 ghost use Rattle.verb.specs.Verbs.{host_of, shape_of, verb_of, visit_verb_of};
@@ -26,7 +27,6 @@ pub enum Verb {
 
 impl Verb {
     // The command of that name.
-    #[tactic(auto, using(crate::proofs::Names::same_name, crate::proofs::Names::other_length, crate::proofs::Names::other_head))]
     pub fn of(word: &[u8]) -> Option<Verb>
         ensures { result ≡ verb_of word.now }
     {
@@ -67,7 +67,6 @@ pub enum VisitVerb {
 
 impl VisitVerb {
     // The command of that name.
-    #[tactic(auto, using(crate::proofs::Names::same_name, crate::proofs::Names::other_length, crate::proofs::Names::other_head))]
     pub fn of(word: &[u8]) -> Option<VisitVerb>
         ensures { result ≡ visit_verb_of word.now }
     {
@@ -96,7 +95,6 @@ pub enum Shape {
 
 impl Shape {
     // The kind of that name.
-    #[tactic(auto, using(crate::proofs::Names::same_name, crate::proofs::Names::other_length, crate::proofs::Names::other_head))]
     pub fn of(word: &[u8]) -> Option<Shape>
         ensures { result ≡ shape_of word.now }
     {
