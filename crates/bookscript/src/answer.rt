@@ -5,11 +5,11 @@ use house::hosts::AnyHost;
 use own_host::lanes::HeapHost;
 use page::slots::SlotHost;
 use std::io;
-use std::io::{BufRead, BufReader, Read};
+use std::io::Read;
 use tool::answer::{answer, answer_with};
 use tool::help::{CALLS, FILES, LAST, UNMADE, tell_pieces};
 use tool::hosted::{Capacities, SLOT_CAPACITY, heap_host, tell_host};
-use tool::inputs::AnswersLines;
+use tool::inputs::{AnswersLines, lines_of};
 
 // What was made last, which other lines ask about.
 #[derive(Default, Drop)]
@@ -51,7 +51,7 @@ impl Made {
         }
     }
 
-    // A line that cannot be understood is answered too, so that the others still are; one that asks for nothing is not.
+    // A line that asks for nothing has no answer.
     fn answer_line(&mut self, rt: &HostRuntime, line: &[u8]) -> io::Result<()> {
         match Command::parse(rt.alloc(), line) {
             Ok(Some(command)) => self.answer(rt, command),
@@ -62,9 +62,8 @@ impl Made {
 }
 
 impl AnswersLines for Made {
-    // Lines are bytes: one that is not UTF-8 is a bad line like any other.
     fn answer_lines<R: Read + Drop>(&mut self, rt: &HostRuntime, input: R) -> io::Result<()> {
-        for line in BufReader::new(rt.alloc(), input)?.split(rt.alloc(), b'\n') {
+        for line in lines_of(rt, input)? {
             self.answer_line(rt, line?.as_slice())?;
         }
         Ok(())

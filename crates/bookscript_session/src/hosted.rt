@@ -15,7 +15,7 @@ pub enum NewHost {
     Slot,
     Own {
         host: HeapHost,
-        // To be shown: a host tells how much space is left, and no capacity.
+        // To be shown: a new host would tell them as its space, but as a `Result` for each channel.
         capacities: Vec<u16>,
     },
     Strip {

@@ -22,7 +22,7 @@ fn help(rt: &HostRuntime) -> io::Result<()> {
 }
 
 // What a line asks for. Nothing if it is blank or for people, and if it is answered here: `help`, whose answer is always
-// the same, and a line that cannot be understood, so that the others still are.
+// the same, and a line that cannot be understood.
 pub fn command_of(rt: &HostRuntime, line: &[u8]) -> io::Result<Option<Command>> {
     match Command::parse(rt.alloc(), line) {
         Ok(Some(Command::Plain(Plain::Help))) => help(rt)?,

@@ -1,5 +1,8 @@
-// The script and the levels that were made last, and the lines that need no visit.
+// The script and the levels that were made last, and the lines that ask about them, about a host and about a visit.
 use crate::hosted::TellsEntries;
+use crate::visited::{tell_collect, tell_feed, tell_standing, tell_turn, tell_turns};
+use console::command::Command as Plain;
+use engine::visit::Visit;
 use host::calls::Host;
 use house::any_regime::AnyRegime;
 use script::accepted::Script;
@@ -12,6 +15,25 @@ use tool::files::{answer_file, tell_script};
 pub struct Made {
     pub script: Option<Script>,
     pub levels: Option<AnyRegime>,
+}
+
+// Is the command refused while a visit is open: does it change what a visit is made from, or open one?
+fn is_setting_up(command: &Command) -> bool {
+    matches!(
+        command,
+        Command::Script(_)
+            | Command::StripHost { .. }
+            | Command::Plain(
+                Plain::Ladder(_)
+                    | Plain::Compartments(_)
+                    | Plain::Map { .. }
+                    | Plain::SlotHost
+                    | Plain::OwnHost(_)
+                    | Plain::Put { .. }
+                    | Plain::Take(_)
+            )
+            | Command::Open
+    )
 }
 
 impl Made {
@@ -61,6 +83,39 @@ impl Made {
         match command {
             Command::Plain(plain) => answer_with(rt, &mut self.levels, host, plain),
             other => self.answer_about(rt, &*host, other),
+        }
+    }
+
+    // A line to an open visit.
+    pub fn answer_visit<H: Host + TellsEntries>(
+        &mut self,
+        rt: &HostRuntime,
+        visit: &mut Visit<AnyRegime, H>,
+        command: Command,
+    ) -> io::Result<()> {
+        if is_setting_up(&command) {
+            return println!(rt; "error the visit is open");
+        }
+        match command {
+            Command::Feed { channel, value } => tell_feed(rt, visit, channel, value),
+            Command::Collect(channel) => tell_collect(rt, visit, channel),
+            Command::Turn => tell_turn(rt, visit),
+            Command::Turns(count) => tell_turns(rt, visit, count),
+            Command::Ask(level) => tell_standing(rt, visit, level),
+            other => self.answer_about(rt, visit.host(), other),
+        }
+    }
+
+    // The command that opened the visit is its first call, unless it only opened it.
+    pub fn answer_first<H: Host + TellsEntries>(
+        &mut self,
+        rt: &HostRuntime,
+        visit: &mut Visit<AnyRegime, H>,
+        command: Command,
+    ) -> io::Result<()> {
+        match command {
+            Command::Open => println!(rt; "opened"),
+            other => self.answer_visit(rt, visit, other),
         }
     }
 }

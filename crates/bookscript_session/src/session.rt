@@ -2,20 +2,18 @@
 use crate::hosted::{NewHost, TellsEntries, host_asked};
 use crate::lines::command_of;
 use crate::made::Made;
-use crate::visited::{tell_collect, tell_feed, tell_standing, tell_turn, tell_turns};
-use console::command::Command as Plain;
 use engine::visit::Visit;
 use host::calls::Host;
 use house::any_regime::AnyRegime;
 use page::slots::SlotHost;
 use session_console::command::Command;
-use std::io::{BufRead, BufReader, Read, Split};
+use std::io::{BufReader, Read, Split};
 use std::ops::ControlFlow;
 use std::{fmt, io};
 use strip::entry::Entry;
 use strip::strips::StripHost;
 use tool::hosted::{Capacities, SLOT_CAPACITY, tell_host};
-use tool::inputs::AnswersLines;
+use tool::inputs::{AnswersLines, lines_of};
 
 // No input asks for as many hosts.
 const HOSTS: usize = usize::MAX;
@@ -31,28 +29,20 @@ trait Stage: Drop {
     ) -> io::Result<ControlFlow<NewHost, Self>>;
 }
 
-// The host that a line asks for, or its answer.
+// Answers a line, unless it asks for a host, which ends the stage.
 fn host_or<F: FnOnce(Command) -> io::Result<()>>(
     rt: &HostRuntime,
     command: Command,
     answer: F,
-) -> io::Result<Option<NewHost>>
+) -> io::Result<ControlFlow<NewHost>>
     requires { F.IsAlwaysCallable answer }
 {
     match host_asked(rt, &command) {
-        Ok(Some(host)) => return Ok(Some(host)),
+        Ok(Some(host)) => return Ok(ControlFlow::Break(host)),
         Ok(None) => answer(command)?,
         Err(error) => println!(rt; "error {error}")?,
     }
-    Ok(None)
-}
-
-// What a stage comes to, which ends where a host is asked for.
-fn next_stage<S: Drop>(stage: S, asked: Option<NewHost>) -> ControlFlow<NewHost, S> {
-    match asked {
-        Some(host) => ControlFlow::Break(host),
-        None => ControlFlow::Continue(stage),
-    }
+    Ok(ControlFlow::Continue(()))
 }
 
 // No host was made yet.
@@ -66,8 +56,8 @@ impl Stage for Unhosted {
         made: &mut Made,
         command: Command,
     ) -> io::Result<ControlFlow<NewHost, Unhosted>> {
-        let asked = host_or(rt, command, |command| made.answer(rt, command))?;
-        Ok(next_stage(self, asked))
+        let flow = host_or(rt, command, |command| made.answer(rt, command))?;
+        Ok(flow.map_continue(|()| self))
     }
 }
 
@@ -90,58 +80,6 @@ fn is_call(command: &Command) -> bool {
     )
 }
 
-// Does the command change what a visit is made from?
-fn is_setting_up(command: &Command) -> bool {
-    matches!(
-        command,
-        Command::Script(_)
-            | Command::StripHost { .. }
-            | Command::Plain(
-                Plain::Ladder(_)
-                    | Plain::Compartments(_)
-                    | Plain::Map { .. }
-                    | Plain::SlotHost
-                    | Plain::OwnHost(_)
-                    | Plain::Put { .. }
-                    | Plain::Take(_)
-            )
-            | Command::Open
-    )
-}
-
-// A line to an open visit.
-fn answer_visit<H: Host + TellsEntries>(
-    rt: &HostRuntime,
-    made: &mut Made,
-    visit: &mut Visit<AnyRegime, H>,
-    command: Command,
-) -> io::Result<()> {
-    if is_setting_up(&command) {
-        return println!(rt; "error the visit is open");
-    }
-    match command {
-        Command::Feed { channel, value } => tell_feed(rt, visit, channel, value),
-        Command::Collect(channel) => tell_collect(rt, visit, channel),
-        Command::Turn => tell_turn(rt, visit),
-        Command::Turns(count) => tell_turns(rt, visit, count),
-        Command::Ask(level) => tell_standing(rt, visit, level),
-        other => made.answer_about(rt, visit.host(), other),
-    }
-}
-
-// The command that opened the visit is its first call, unless it only opened it.
-fn answer_first<H: Host + TellsEntries>(
-    rt: &HostRuntime,
-    made: &mut Made,
-    visit: &mut Visit<AnyRegime, H>,
-    command: Command,
-) -> io::Result<()> {
-    match command {
-        Command::Open => println!(rt; "opened"),
-        other => answer_visit(rt, made, visit, other),
-    }
-}
-
 impl<H: Host + TellsEntries + Drop> Hosted<H> {
     // A line to a host that no visit has. A call of a visit opens one, if script and levels were made.
     fn answer_host(
@@ -154,20 +92,20 @@ impl<H: Host + TellsEntries + Drop> Hosted<H> {
             && let Some((script, levels)) = made.ready()
         {
             let mut visit = Visit::open(script, levels, host);
-            answer_first(rt, made, &mut visit, command)?;
+            made.answer_first(rt, &mut visit, command)?;
             return Ok(ControlFlow::Continue(Hosted::Visit(visit)));
         }
         let mut host = host;
-        let asked = host_or(
+        let flow = host_or(
             rt,
             command,
             |command| made.answer_with(rt, &mut host, command),
         )?;
-        Ok(next_stage(Hosted::Host(host), asked))
+        Ok(flow.map_continue(|()| Hosted::Host(host)))
     }
 
-    // A line to an open visit, which gives its host back when it is closed.
-    fn answer_visit(
+    // The line that closes a visit gives its host back; every other line is the visit's.
+    fn answer_or_close(
         rt: &HostRuntime,
         made: &mut Made,
         visit: Visit<AnyRegime, H>,
@@ -179,7 +117,7 @@ impl<H: Host + TellsEntries + Drop> Hosted<H> {
             return Ok(Hosted::Host(host));
         }
         let mut visit = visit;
-        answer_visit(rt, made, &mut visit, command)?;
+        made.answer_visit(rt, &mut visit, command)?;
         Ok(Hosted::Visit(visit))
     }
 }
@@ -194,13 +132,13 @@ impl<H: Host + TellsEntries + Drop> Stage for Hosted<H> {
         match self {
             Hosted::Host(host) => Hosted::answer_host(rt, made, host, command),
             Hosted::Visit(visit) => {
-                Ok(ControlFlow::Continue(Hosted::answer_visit(rt, made, visit, command)?))
+                Ok(ControlFlow::Continue(Hosted::answer_or_close(rt, made, visit, command)?))
             }
         }
     }
 }
 
-// The lines of one input, and what they made. Lines are bytes: one that is not UTF-8 is a bad line like any other.
+// The lines of one input, and what they made.
 #[derive(Drop)]
 struct Session<R> {
     lines: Split<BufReader<R>>,
@@ -210,7 +148,7 @@ struct Session<R> {
 impl<R: Read + Drop> Session<R> {
     fn new(rt: &HostRuntime, input: R) -> io::Result<Session<R>> {
         Ok(Session {
-            lines: BufReader::new(rt.alloc(), input)?.split(rt.alloc(), b'\n'),
+            lines: lines_of(rt, input)?,
             made: Made::default(),
         })
     }
@@ -240,6 +178,7 @@ impl<R: Read + Drop> Session<R> {
         self.run(rt, Hosted::Host(host))
     }
 
+    // The same of a host over a strip, which borrows its entries.
     fn serve_strip(
         &mut self,
         rt: &HostRuntime,
@@ -251,7 +190,7 @@ impl<R: Read + Drop> Session<R> {
         self.serve(rt, host, capacity)
     }
 
-    // The same of the host that was asked for.
+    // The same of the host that was asked for, of whichever kind.
     fn serve_new(&mut self, rt: &HostRuntime, host: NewHost) -> io::Result<Option<NewHost>> {
         match host {
             NewHost::Slot => self.serve(rt, SlotHost::new(), SLOT_CAPACITY),

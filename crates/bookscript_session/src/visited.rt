@@ -26,6 +26,8 @@ impl fmt::Display for Acted {
 }
 
 // What many turns answered: how many of each kind, and a checksum of all answers in order.
+// Not the `Tally` of the other program: the tool's checksum is fixed by docs/bookscript.md, the sum of `speed` by its twin
+// in bench/.
 #[derive(Clone, Copy, Default)]
 struct Tally {
     moved: usize,

@@ -1,5 +1,6 @@
 // Reading and writing the largest file.
 use crate::runs::timed;
+use crate::tally::mixed;
 use anyhow::anyhow;
 use reader::file::read_script;
 use refusal::{Fault, Flaw, Refusal};
@@ -65,7 +66,7 @@ fn sum_of<E: Drop, F: FnMut(u8) -> Result<i32, E>>(times: usize, call: F) -> i32
     for time in 1..=times {
         let [low, ..] = time.to_le_bytes();
         sum = match call(low) {
-            Ok(number) => sum.wrapping_mul(31).wrapping_add(number),
+            Ok(number) => mixed(sum, number),
             Err(_) => sum.wrapping_mul(37),
         };
     }

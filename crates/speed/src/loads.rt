@@ -27,26 +27,18 @@ pub struct Load {
     ghost paced: { 1 ≤ pace },
 }
 
+fn channel(direction: Direction, level: u8) -> Channel {
+    Channel { direction, level }
+}
+
 // Two channels of the lowest level and two of the highest, an in and an out of each.
 fn channels(levels: u8) -> [Channel; 4] {
     let top = levels.saturating_sub(1);
     [
-        Channel {
-            direction: Direction::In,
-            level: 0,
-        },
-        Channel {
-            direction: Direction::Out,
-            level: 0,
-        },
-        Channel {
-            direction: Direction::In,
-            level: top,
-        },
-        Channel {
-            direction: Direction::Out,
-            level: top,
-        },
+        channel(Direction::In, 0),
+        channel(Direction::Out, 0),
+        channel(Direction::In, top),
+        channel(Direction::Out, top),
     ]
 }
 

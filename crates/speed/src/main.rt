@@ -16,26 +16,26 @@ use page::slots::SlotHost;
 use runs::measure_host;
 use std::{env, io};
 
-// Turns of each run: a visit's whole budget if the first argument is `full`, or few, for the gate.
+// Turns of each run: a visit's whole budget if an argument is `full`, or few, for the gate.
 fn turns_asked(rt: &HostRuntime) -> io::Result<usize> {
     let full = env::args(rt)?.skip(1).any(|word| word.as_str() == "full");
     Ok(if full { 1_000_000 } else { 50_000 })
 }
 
+// The bytes are a parameter, and no regime: the borrow checker does not cover `size_of` of a type parameter.
+fn tell_size(rt: &HostRuntime, name: &str, bytes: usize) -> io::Result<()> {
+    println!(rt; "bytes {name} slots {bytes}")
+}
+
 // The bytes of a visit under each regime.
 fn tell_sizes(rt: &HostRuntime) -> io::Result<()> {
-    println!(rt;
-        "bytes ladder slots {}",
-        size_of::<Visit<Ladder, SlotHost>>()
+    tell_size(rt, "ladder", size_of::<Visit<Ladder, SlotHost>>())?;
+    tell_size(
+        rt,
+        "compartments",
+        size_of::<Visit<Compartments, SlotHost>>(),
     )?;
-    println!(rt;
-        "bytes compartments slots {}",
-        size_of::<Visit<Compartments, SlotHost>>()
-    )?;
-    println!(rt;
-        "bytes map slots {}",
-        size_of::<Visit<OrderMap, SlotHost>>()
-    )
+    tell_size(rt, "map", size_of::<Visit<OrderMap, SlotHost>>())
 }
 
 fn run(rt: &HostRuntime) -> anyhow::Result<()> {

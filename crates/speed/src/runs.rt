@@ -33,7 +33,8 @@ fn empty_all<H: Host>(host: &mut H) {
     }
 }
 
-// The world comes by: it feeds both in channels and collects from both out channels.
+// The world comes by: it feeds both in channels and collects from both out channels. Here and below a visit and what it
+// answered: the visit ends before the tally does, so no struct holds both.
 fn come_by<R: Regime, H: Host>(visit: &mut Visit<R, H>, value: i32, tally: &mut Tally) {
     tally.feed(visit.feed(0, value));
     tally.collect(visit.collect(1));

@@ -3,6 +3,13 @@ use meaning::answers::Moved;
 use refusal::Refusal;
 use std::fmt;
 
+// The sum with one more value: their order counts.
+pub fn mixed(sum: i32, value: i32) -> i32 {
+    sum.wrapping_mul(31).wrapping_add(value)
+}
+
+// Not the `Tally` of the other program: the tool's checksum is fixed by docs/bookscript.md, the sum of `speed` by its twin
+// in bench/.
 #[derive(Clone, Copy, Default)]
 pub struct Tally {
     moved: u32,
@@ -14,9 +21,8 @@ pub struct Tally {
 }
 
 impl Tally {
-    // The order of what is mixed in counts.
     fn mix(&mut self, value: i32) {
-        self.sum = self.sum.wrapping_mul(31).wrapping_add(value);
+        self.sum = mixed(self.sum, value);
     }
 
     pub fn turn(&mut self, answer: Result<Option<Moved>, Refusal>) {

@@ -9,7 +9,8 @@ use house::any_regime::AnyRegime;
 use std::io;
 use text::number::capped_byte;
 
-// A line about files or levels. What only a host could answer is unmade.
+// A line about files or levels. What only a host could answer is unmade; `help` and the making of hosts never come here,
+// since callers answer them before. The levels stand beside the command: both programs hold them in a struct of their own.
 pub fn answer(
     rt: &HostRuntime,
     levels: &mut Option<AnyRegime>,

@@ -38,7 +38,7 @@ pub fn answer_file<F: FnOnce(&Script) -> io::Result<()>>(
     }
 }
 
-// Prints the same of the file's script.
+// Prints how many levels, channels and instructions the file's script has.
 pub fn read(rt: &HostRuntime, file: &[u8]) -> io::Result<()> {
     answer_file(rt, file, |script| tell_script(rt, script))
 }
@@ -74,7 +74,7 @@ fn tell_written(rt: &HostRuntime, script: &Script, room: usize) -> io::Result<()
     }
 }
 
-// The same of the file's script.
+// Writes the file's script so.
 pub fn write(rt: &HostRuntime, file: &[u8], room: usize) -> io::Result<()> {
     answer_file(rt, file, |script| tell_written(rt, script, room))
 }

@@ -1,5 +1,5 @@
 // Levels and the questions about them.
-use crate::tell::refuse;
+use crate::tell::tell;
 use class::compartments::Compartments;
 use house::any_regime::AnyRegime;
 use house::order_map::OrderMap;
@@ -19,7 +19,7 @@ pub fn compartments(k: usize) -> AnyRegime {
 }
 
 pub fn map(n: usize, rows: [u16; 16]) -> Result<AnyRegime, Refusal> {
-    Ok(AnyRegime::Map(OrderMap::new(capped_byte(n), rows)?))
+    OrderMap::new(capped_byte(n), rows).map(AnyRegime::Map)
 }
 
 // Keeps the levels that were made and prints how many they are; a refusal leaves those that were made before.
@@ -28,16 +28,12 @@ pub fn make_levels(
     levels: &mut Option<AnyRegime>,
     made: Result<AnyRegime, Refusal>,
 ) -> io::Result<()> {
-    match made {
-        Ok(regime) => {
-            *levels = Some(regime);
-            println!(rt; "levels {}", regime.levels())
-        }
-        Err(refusal) => refuse(rt, refusal),
-    }
+    let count = made.map(|regime| levels.insert(regime).levels());
+    tell(rt, "levels", count)
 }
 
-// Prints whether the first level flows to the second.
+// Prints whether the first level flows to the second. The guard stands here and in `tell_pick`: a helper that takes a
+// closure would be longer.
 pub fn tell_flows(
     rt: &HostRuntime,
     levels: Option<AnyRegime>,
@@ -54,7 +50,8 @@ pub fn tell_flows(
     }
 }
 
-// The levels whose bits are one; none of a number from 16 up. Inserted one by one, since a set is in fixed memory.
+// The levels whose bits are one; none of a number from 16 up. A loop that inserts, as in `engine`:
+// `collect` takes an allocator.
 fn set_of(mask: usize) -> ReadySet {
     let mut ready = ReadySet::none();
     for level in 0..16u8 {

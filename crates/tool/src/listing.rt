@@ -21,7 +21,7 @@ impl fmt::Display for Wire {
     }
 }
 
-// What an operation makes of two registers, in words.
+// What an operation makes of two registers, in words. Three fields of an instruction: `Operation` alone is no phrase.
 #[derive(Clone, Copy)]
 struct Computed {
     operation: Operation,

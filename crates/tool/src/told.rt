@@ -74,6 +74,20 @@ impl fmt::Display for InstructionFields {
     }
 }
 
+// Writes each row after a blank.
+fn write_rows<W: fmt::Write, T: Copy, R: fmt::Display + Drop, F: Fn(T) -> R>(
+    f: &mut fmt::Formatter<W>,
+    rows: &[T],
+    shown: F,
+) -> fmt::Result
+    requires { F.IsAlwaysCallable shown }
+{
+    for row in rows {
+        write!(f, " {}", shown(*row))?;
+    }
+    Ok(())
+}
+
 // The channels and the instructions of a script, field by field.
 #[derive(Clone, Copy)]
 pub struct Shown<'a>(pub &'a Script);
@@ -81,13 +95,8 @@ pub struct Shown<'a>(pub &'a Script);
 impl fmt::Display for Shown<'_> {
     fn fmt<W: fmt::Write>(&self, f: &mut fmt::Formatter<W>) -> fmt::Result {
         f.write_str("channels")?;
-        for channel in self.0.channels() {
-            write!(f, " {}", ChannelFields(*channel))?;
-        }
+        write_rows(f, self.0.channels(), ChannelFields)?;
         f.write_str(" instructions")?;
-        for instruction in self.0.instructions() {
-            write!(f, " {}", InstructionFields(*instruction))?;
-        }
-        Ok(())
+        write_rows(f, self.0.instructions(), InstructionFields)
     }
 }
