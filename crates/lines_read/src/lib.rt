@@ -10,7 +10,10 @@ mod tests {
 
     #[test]
     fn rows_are_read(rt: HostRuntime) {
-        assert_eq!(rt; Words::new(rt.alloc(), b"000f 0ff0").rows(), Ok([15, 4080, 0, 0, 0, 0, 0, 0, 0, 0, 0, 0, 0, 0, 0, 0]));
+        assert_eq!(rt;
+            Words::new(rt.alloc(), b"000f 0ff0").rows(),
+            Ok([15, 4080, 0, 0, 0, 0, 0, 0, 0, 0, 0, 0, 0, 0, 0, 0])
+        );
     }
 
     #[test]
@@ -54,7 +57,16 @@ mod tests {
             return assert!(rt; false, "flows");
         };
         assert_eq!(rt; (from, to), (3, 7));
-        assert!(rt; matches!(Command::parse(rt.alloc(), b"# flows 3 7"), Ok(None)), "a line for people");
-        assert!(rt; matches!(Command::parse(rt.alloc(), b"flows 3 7 8"), Err(LineError::Extra)), "a word too many");
+        assert!(rt;
+            matches!(Command::parse(rt.alloc(), b"# flows 3 7"), Ok(None)),
+            "a line for people"
+        );
+        assert!(rt;
+            matches!(
+                Command::parse(rt.alloc(), b"flows 3 7 8"),
+                Err(LineError::Extra)
+            ),
+            "a word too many"
+        );
     }
 }
