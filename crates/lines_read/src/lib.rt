@@ -10,10 +10,10 @@ mod tests {
 
     #[test]
     fn rows_are_read(rt: HostRuntime) {
-        let Ok(rows) = Words::new(rt.alloc(), b"000f 0ff0").rows() else {
-            return assert!(rt; false, "rows");
-        };
-        assert_eq!(rt; rows, [15, 4080, 0, 0, 0, 0, 0, 0, 0, 0, 0, 0, 0, 0, 0, 0]);
+        assert_eq!(rt;
+            Words::new(rt.alloc(), b"000f 0ff0").rows(),
+            Ok([15, 4080, 0, 0, 0, 0, 0, 0, 0, 0, 0, 0, 0, 0, 0, 0])
+        );
     }
 
     #[test]
@@ -57,11 +57,16 @@ mod tests {
             return assert!(rt; false, "flows");
         };
         assert_eq!(rt; (from, to), (3, 7));
-        let Ok(None) = Command::parse(rt.alloc(), b"# flows 3 7") else {
-            return assert!(rt; false, "a line for people");
-        };
-        let Err(LineError::Extra) = Command::parse(rt.alloc(), b"flows 3 7 8") else {
-            return assert!(rt; false, "a word too many");
-        };
+        assert!(rt;
+            matches!(Command::parse(rt.alloc(), b"# flows 3 7"), Ok(None)),
+            "a line for people"
+        );
+        assert!(rt;
+            matches!(
+                Command::parse(rt.alloc(), b"flows 3 7 8"),
+                Err(LineError::Extra)
+            ),
+            "a word too many"
+        );
     }
 }

@@ -38,19 +38,18 @@ impl Command {
         ensures { Takes request (host_asked (left words.old)) result (left words.new) }
     {
         match words.word()? {
-            b"strip" => {
-                let count = words.number()?;
-                let entries = words.room()?;
-                Ok(Command::StripHost { count, entries })
-            }
+            b"strip" => Ok(Command::StripHost {
+                count: words.number()?,
+                entries: words.room()?,
+            }),
             word => {
                 let kind = HostKind::of(word).ok_or(LineError::AnyHost)?;
-                Ok(Command::Plain(command::Command::of_kind(kind, words)?))
+                command::Command::of_kind(kind, words).map(Command::Plain)
             }
         }
     }
 
-    // The turns that the words ask for.
+    // The turns that the words ask for. A test, as `room_of` of the lines' words has: a function of bound and error would be as long.
     fn turns(words: &mut Words) -> Result<Command, LineError>
         ensures { Takes request (turns_asked (left words.old)) result (left words.new) }
     {
@@ -62,18 +61,17 @@ impl Command {
         }
     }
 
-    // The command of a visit of that name, with the arguments that it takes from the words.
+    // The command of a visit of that verb, with the arguments that it takes from the words.
     fn visit(verb: VisitVerb, words: &mut Words) -> Result<Command, LineError>
         ensures { Takes request (visit_asked verb (left words.old)) result (left words.new) }
     {
         match verb {
             VisitVerb::Script => Ok(Command::Script(words.bytes()?)),
             VisitVerb::Open => Ok(Command::Open),
-            VisitVerb::Feed => {
-                let channel = words.number()?;
-                let value = words.value()?;
-                Ok(Command::Feed { channel, value })
-            }
+            VisitVerb::Feed => Ok(Command::Feed {
+                channel: words.number()?,
+                value: words.value()?,
+            }),
             VisitVerb::Collect => Ok(Command::Collect(words.number()?)),
             VisitVerb::Turn => Ok(Command::Turn),
             VisitVerb::Turns => Command::turns(words),
@@ -87,7 +85,7 @@ impl Command {
     fn plain(name: &[u8], words: &mut Words) -> Result<Command, LineError>
         ensures { Takes request (plain_asked name.now (left words.old)) result (left words.new) }
     {
-        Ok(Command::Plain(command::Command::named(name, words)?))
+        command::Command::named(name, words).map(Command::Plain)
     }
 
     // The command of that name, with the arguments that it takes from the words.
@@ -97,7 +95,7 @@ impl Command {
         if let Some(verb) = VisitVerb::of(name) {
             return Command::visit(verb, words);
         }
-        // A test and no pattern: tried as a match, and in its last arm the search does not see what the name is not.
+        // A test and no pattern: tried as a match, and only the last arm stayed open, where the facts are a choice of six branches.
         if is_name(name, "host") {
             Command::host(words)
         } else {
