@@ -51,7 +51,7 @@ impl Made {
         }
     }
 
-    // A line that asks for nothing has no answer.
+    // A line that asks for nothing has no answer: one case of three.
     fn answer_line(&mut self, rt: &HostRuntime, line: &[u8]) -> io::Result<()> {
         match Command::parse(rt.alloc(), line) {
             Ok(Some(command)) => self.answer(rt, command),

@@ -19,7 +19,7 @@ use tool::inputs::{AnswersLines, lines_of};
 const HOSTS: usize = usize::MAX;
 
 // Where a session is: what a line is answered by. A line leaves the stage that answers the next one, or asks for another
-// host, which ends the stage.
+// host, which ends the stage. What was made stays beside the stage: a line uses a stage up, and what was made outlives it.
 trait Stage: Drop {
     fn answer(
         self,

@@ -70,7 +70,8 @@ impl Command {
     }
 
     // The command of that verb, with the arguments that it takes from the words.
-    // Names apart from their words: the verb picks the reader, and each name stands once, for both consoles.
+    // Names apart from what they ask for: the verb picks the reader, and both consoles share the names. Only `host` stands
+    // again in the session's console, where a strip is a host too.
     pub fn of(verb: Verb, words: &mut Words) -> Result<Command, LineError>
         ensures { Takes request (asked verb (left words.old)) result (left words.new) }
     {

@@ -4,7 +4,8 @@ ghost use Rattle.meaning.specs.Arithmetic.{quotient_of, remainder_of, result_of}
 
 use script::parts::Operation;
 
-// The quotient of the least value by -1 has more than 32 bits, and wraps to the least value.
+// The quotient of the least value by -1 has more than 32 bits, and wraps to the least value. Two operands, here and below: a
+// pair would be made and taken apart each time.
 fn quotient(a: i32, b: i32) -> i32
     ensures { result ≡ quotient_of a b }
 {

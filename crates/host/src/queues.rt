@@ -7,6 +7,8 @@ ghost use Rattle.refusal.specs.declared.Refusal.TheVariants.{Channel};
 use refusal::Refusal;
 
 // The queue of one channel: at most `capacity` values, oldest first, but it may begin with more.
+// That a refusal leaves it as it was is said of each call for itself, here, below and of a host: an invariant speaks of one
+// value, and not of the one before.
 pub trait ChannelQueue {
     ghost list: { Self → List ℤ };
 
@@ -39,14 +41,14 @@ pub trait ChannelQueue {
 pub fn held<Q: ChannelQueue>(queues: &[Q], channel: u8) -> Result<usize, Refusal>
     ensures { result ≡ stored (queued Q.list Q.capacity 0 queues.now) channel }
 {
-    let queue = queues.get(channel as usize).ok_or(Refusal::Channel)?;
+    let queue = queues.get(usize::from(channel)).ok_or(Refusal::Channel)?;
     Ok(queue.len())
 }
 
 pub fn space<Q: ChannelQueue>(queues: &[Q], channel: u8) -> Result<usize, Refusal>
     ensures { (k : ℕ) → result ≡ lacking (queued Q.list Q.capacity k queues.now) channel }
 {
-    let queue = queues.get(channel as usize).ok_or(Refusal::Channel)?;
+    let queue = queues.get(usize::from(channel)).ok_or(Refusal::Channel)?;
     Ok(queue.space())
 }
 
@@ -55,10 +57,11 @@ pub fn space<Q: ChannelQueue>(queues: &[Q], channel: u8) -> Result<usize, Refusa
 fn place<Q>(queues: &[Q], channel: u8) -> Result<usize, Refusal>
     ensures { MatchResult result (λ i. (i ≡ channel) × (channel < length queues.now)) (λ e. (e ≡ Channel) × (length queues.now ≤ channel)) }
 {
-    if channel as usize >= queues.len() {
+    let at = usize::from(channel);
+    if at >= queues.len() {
         return Err(Refusal::Channel);
     }
-    Ok(channel as usize)
+    Ok(at)
 }
 
 pub fn put<Q: ChannelQueue>(queues: &mut [Q], channel: u8, value: i32) -> Result<(), Refusal>

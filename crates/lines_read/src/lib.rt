@@ -16,6 +16,7 @@ mod tests {
         );
     }
 
+    // This and the next but one are written out: their items differ in type.
     #[test]
     fn capacities_are_read(rt: HostRuntime) {
         let Ok(capacities) = Words::new(rt.alloc(), b"1 65535").capacities() else {

@@ -1,4 +1,5 @@
-// A maker's main loop over the package Page: what the reader does goes to the script, and its report comes out.
+// A maker's main loop over the package Page: what the reader does goes to the script, and its report comes out. It stands
+// alone, as the loops over Class and House do.
 #![tactic(auto)]
 
 use page::ladder::Ladder;
@@ -19,7 +20,7 @@ const TURNS: u32 = 10;
 
 type Lesson = Visit<Ladder, SlotHost>;
 
-// A turn that moved nobody is nothing to tell.
+// A turn that moved nobody is nothing to tell: one case of three.
 fn tell_move(rt: &HostRuntime, turned: Result<Option<Moved>, Refusal>) -> io::Result<()> {
     match turned {
         Ok(Some(Moved { level, act })) => println!(rt; "level {level}: act {}", act.number()),

@@ -96,7 +96,7 @@ pub struct Fields {
 }
 
 impl Instruction {
-    // The number of its kind in a file.
+    // The number of its kind in a file. By a match: cases that carry something have no `as u8`.
     fn kind(self) -> u8
         ensures { result ≡ (fields_of self).kind }
     {

@@ -10,7 +10,8 @@ use regime::rules::Regime;
 use std::io;
 use std::time::Instant;
 
-// What the call answers, and how many nanoseconds it takes.
+// What the call answers, and how many nanoseconds it takes. That a call can be called is asked wherever one is handed on: no
+// type of this crate holds it.
 pub fn timed<T: Drop, F: FnOnce() -> T>(rt: &HostRuntime, call: F) -> io::Result<(T, u128)>
     requires { F.IsAlwaysCallable call }
 {
@@ -71,7 +72,8 @@ fn run<R: Regime + Copy, H: Host + Drop>(load: &Load, regime: R, host: H) -> (Ta
     (tally, host)
 }
 
-// What is measured: one kind of load, with so many turns in all, over the host of that name.
+// What is measured: one kind of load, with so many turns in all, over the host of that name. The host is no part of it: it
+// is handed on from run to run, and a task is `Copy`.
 #[derive(Clone, Copy)]
 struct Task<'a> {
     kind: Kind,

@@ -16,5 +16,5 @@ pub(crate) fn capacity_of(count: u8, given: usize) -> usize
     if count == 0 {
         return 0;
     }
-    given.min(512) / count as usize
+    given.min(512) / usize::from(count)
 }

@@ -50,8 +50,8 @@ pub fn tell_flows(
     }
 }
 
-// The levels whose bits are one; none of a number from 16 up. A loop that inserts, as in `engine`:
-// `collect` takes an allocator.
+// The levels whose bits are one; none of a number from 16 up. A loop that inserts: `filter` and
+// `fold` are as long, and `collect` takes an allocator.
 fn set_of(mask: usize) -> ReadySet {
     let mut ready = ReadySet::none();
     for level in 0..16u8 {

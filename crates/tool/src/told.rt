@@ -74,7 +74,7 @@ impl fmt::Display for InstructionFields {
     }
 }
 
-// Writes each row after a blank.
+// Writes each row after a blank, into one line; `list_rows` prints a line for each, with its number.
 fn write_rows<W: fmt::Write, T: Copy, R: fmt::Display + Drop, F: Fn(T) -> R>(
     f: &mut fmt::Formatter<W>,
     rows: &[T],

@@ -1,4 +1,4 @@
-// Each call is the call of the host inside.
+// Each call is the call of the host inside: by a match in each, since nothing hands out a `dyn`.
 ghost use Rattle.std.specs.Prelude.{◌≡◌};
 ghost use Rattle.any_host.specs.Cases.{any_channels, any_lawful, AnyPuts, AnyTakes};
 

@@ -11,7 +11,7 @@ use script::parts::Instruction;
 // changed by `copies[level as usize]`, since of an array that was lent by `get_mut` no more is known than its length, and an
 // index by `usize::from` costs each answer a step more. One function for the four tests of a level would take the step as a
 // closure, and its contract (what may be called, what that leaves, that the others stay) be longer than the tests. What a
-// step takes are fields of an instruction, another set in each.
+// step takes are fields of an instruction, another set for each kind.
 impl Copies {
     // Every copy as it begins, and no step done.
     pub fn new() -> Copies

@@ -20,7 +20,8 @@ use script::parts::Instruction;
 
 // What they may rely on is asked by a word each (Running, Port, Fits). None is an invariant of a visit: one that does not
 // fit is a visit too, and refuses. A struct for them would have to lend the visit. Level, target and channel go side by
-// side, as they come from the pick and from an instruction's own fields, another set in each.
+// side, as they come from the pick and from an instruction's own fields: another set for each kind of instruction, and a
+// struct for the set of an in would be taken apart again in what it calls.
 impl<R: Regime, H: Host> Visit<R, H> {
     // Where an in of the copy at the level gets its value.
     pub(crate) fn source(&self, level: u8, channel: u8) -> Source

@@ -14,7 +14,8 @@ use regime::ready::ReadySet;
 use regime::rules::Regime;
 use script::parts::Instruction;
 
-// What these may rely on is asked as in `moves`: no invariant, since a visit that does not fit is a visit too.
+// What these may rely on is asked as in `moves`: no invariant, since a visit that does not fit is a visit too. Level and
+// channel go side by side as there.
 impl<R: Regime, H: Host> Visit<R, H> {
     // The level of a channel of the script.
     pub(crate) fn level_of(&self, channel: u8) -> u8

@@ -11,6 +11,7 @@ use copies::table::Copies;
 use copies::tapes::Tapes;
 use script::parts::Instruction;
 
+// Level, target, channel and value go side by side, as in `moves`.
 impl Course {
     // Every copy and every tape as it begins.
     pub(crate) fn begin() -> Course

@@ -51,7 +51,7 @@ fn write(copy: &mut Replica, first: u8, channel: u8) -> Did
 }
 
 impl PlainRun {
-    // One step, and what it did.
+    // One step, and what it did. That the script stays is said here too, as in `calls`.
     pub fn step(&mut self) -> Did
         ensures does { Stepped (program self.old.script) (given_of self.old) (lists_of self.old) (copy_of self.old.copy) result (copy_of self.new.copy) }
         ensures script { self.new.script ≡ self.old.script }

@@ -9,7 +9,8 @@ use crate::entry::Entry;
 use crate::strips::StripHost;
 use refusal::Refusal;
 
-// The next entry becomes the value on its channel.
+// The next entry becomes the value on its channel. They come as two, here and below, as a host's `put` is given them: the
+// entry is made here.
 fn store(entries: &mut [Entry], at: usize, channel: u8, value: i32)
     requires { at < length entries.old }
     ensures { entries.new ≡ entries_put at channel value entries.old }
@@ -29,14 +30,14 @@ fn count_up(counts: &mut [usize; 16], channel: u8)
     requires { (channel < 16) × (slice_index counts.old channel < 512) }
     ensures { counts.new ≡ slice_set counts.old channel (slice_index counts.old channel + 1) }
 {
-    counts[channel as usize] += 1;
+    counts[usize::from(channel)] += 1;
 }
 
 fn count_down(counts: &mut [usize; 16], channel: u8)
     requires { (channel < 16) × (0 < slice_index counts.old channel) }
     ensures { counts.new ≡ slice_set counts.old channel (slice_index counts.old channel - 1) }
 {
-    counts[channel as usize] -= 1;
+    counts[usize::from(channel)] -= 1;
 }
 
 impl StripHost<'_> {
