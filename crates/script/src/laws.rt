@@ -4,7 +4,7 @@ ghost use Rattle.script.specs.Fields.{KnownByFields};
 ghost use Rattle.script.specs.Model.{EveryScriptAccepted, SameScript};
 
 use crate::accepted::Script;
-use crate::parts::{Channel, Instruction};
+use crate::parts::{Channel, Direction, Fields, Instruction};
 
 // Every script holds an accepted model.
 pub fn every_script_is_accepted()
@@ -23,7 +23,17 @@ pub fn fields_tell_an_instruction()
     ensures { KnownByFields }
 {}
 
-// Two channels are equal exactly where they are one value.
+// Two directions are equal exactly where they are one value.
+pub fn equal_directions_are_one_value()
+    ensures { TellsApart ⟦<Direction as PartialEq>⟧.eq }
+{}
+
+// And so are the fields of two instructions.
+pub fn equal_fields_are_one_value()
+    ensures { TellsApart ⟦<Fields as PartialEq>⟧.eq }
+{}
+
+// And so are two channels.
 pub fn equal_channels_are_one_value()
     ensures { TellsApart ⟦<Channel as PartialEq>⟧.eq }
 {}
