@@ -46,7 +46,7 @@ module _ (t : Copies) (l : ℕ) (small : l < 16) (x : LevelCopy) (inside : l < l
   same_steps = read_as steps_in t.copies l x 0 inside is
 
   -- may do what the table says that it may
-  steps_too : can_step here ≡ may_step t l
+  pub steps_too : can_step here ≡ may_step t l
   steps_too = ap (λ n. nat_lt n 4294967295) same_steps ∙ sym (ap (λ b. b && nat_lt (steps_of t l) 4294967295) (lt-ltb l 16 small))
 
   pub goes_too : can_go_on here ≡ may_go_on t l

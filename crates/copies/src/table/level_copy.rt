@@ -1,6 +1,6 @@
 // A copy that counts its own steps. What may not be done changes nothing.
 ghost use Rattle.std.specs.Prelude.{◌≡◌, true, false};
-ghost use Rattle.meaning.specs.Copies.{assign, first, further, go_on};
+ghost use Rattle.meaning.specs.Copies.{assign, first, further, go_on, go_to};
 ghost use Rattle.copies.specs.Computed.{computed};
 ghost use Rattle.copies.specs.Held.{Moved, can_assign, can_compute, can_go_on, can_read, can_step, copy_in};
 
@@ -8,7 +8,7 @@ use crate::replica::Replica;
 use crate::table::LevelCopy;
 use script::parts::Instruction;
 
-// Four calls of one form, each with another step: one function over them would take the step as a closure, and its contract
+// Five calls of one form, each with another step: one function over them would take the step as a closure, and its contract
 // would be longer than they are.
 impl LevelCopy {
     // A copy as it begins, and no step done.
@@ -27,6 +27,17 @@ impl LevelCopy {
         ensures { result ≡ can_step self.now }
     {
         self.steps < u32::MAX
+    }
+
+    // The copy goes to an instruction, in one step.
+    pub(crate) fn go_to(&mut self, next: u16)
+        ensures done { can_step self.old ≡ true → Moved self.old self.new (go_to (copy_in self.old) next) }
+        ensures kept { can_step self.old ≡ false → self.new ≡ self.old }
+    {
+        if self.can_step() {
+            self.copy.go_to(next);
+            self.steps += 1;
+        }
     }
 
     // The copy goes to the instruction after its own, in one step.

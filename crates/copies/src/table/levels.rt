@@ -1,15 +1,15 @@
 // The copy at a level, and its own steps.
 ghost use Rattle.std.specs.Prelude.{◌≡◌, ℕ, suc, true, false};
-ghost use Rattle.meaning.specs.Copies.{assign, first, further, go_on};
+ghost use Rattle.meaning.specs.Copies.{assign, first, further, go_on, go_to};
 ghost use Rattle.copies.specs.Computed.{computed};
-ghost use Rattle.copies.specs.Held.{Stepped, copies_of, may_assign, may_compute, may_go_on, may_read, steps_of};
+ghost use Rattle.copies.specs.Held.{Stepped, copies_of, may_assign, may_compute, may_go_on, may_read, may_step, steps_of};
 
 use crate::table::{Copies, LevelCopy};
 use script::parts::Instruction;
 
 // Copies are asked and changed where they stand: to copy one out and store it back costs more than a turn does. They are
 // changed by `copies[level as usize]`, since of an array that was lent by `get_mut` no more is known than its length, and an
-// index by `usize::from` costs each answer a step more. One function for the four tests of a level would take the step as a
+// index by `usize::from` costs each answer a step more. One function for the five tests of a level would take the step as a
 // closure, and its contract (what may be called, what that leaves, that the others stay) be longer than the tests. What a
 // step takes are fields of an instruction, another set for each kind.
 impl Copies {
@@ -57,7 +57,17 @@ impl Copies {
         self.copies.get(usize::from(level)).map_or(0, |at| at.steps)
     }
 
-    // The copy goes to the instruction after its own, in one step. What may not be done changes nothing, here and below.
+    // The copy goes to an instruction, in one step. What may not be done changes nothing, here and below.
+    pub fn go_to(&mut self, level: u8, next: u16)
+        ensures done { may_step self.old level ≡ true → Stepped self.old self.new level (go_to (copies_of self.old level) next) }
+        ensures kept { may_step self.old level ≡ false → self.new ≡ self.old }
+    {
+        if level < 16 {
+            self.copies[level as usize].go_to(next);
+        }
+    }
+
+    // The copy goes to the instruction after its own, in one step.
     pub fn go_on(&mut self, level: u8)
         ensures done { may_go_on self.old level ≡ true → Stepped self.old self.new level (go_on (copies_of self.old level)) }
         ensures kept { may_go_on self.old level ≡ false → self.new ≡ self.old }

@@ -1,5 +1,5 @@
 // What a tape has at a position, and a value more.
-ghost use Rattle.std.specs.Prelude.{◌≡◌, ℕ, ◌<◌, ◌≤◌, [], ◌∷◌, ◌++◌, length, nat_lt};
+ghost use Rattle.std.specs.Prelude.{◌≡◌, ℕ, ◌<◌, ◌≤◌, ◌&&◌, [], ◌∷◌, ◌++◌, length, nat_lt};
 ghost use Rattle.host.specs.Channels.{push_answer};
 ghost use Rattle.meaning.specs.Copies.{nth};
 ghost use Rattle.meaning.specs.Visits.{put_on};
@@ -68,6 +68,15 @@ impl Tapes {
         self.tapes
             .get(usize::from(channel))
             .and_then(|tape| tape.value(at))
+    }
+
+    // Has the channel a tape, and can it hold one value more?
+    pub fn has_room(&self, channel: u8) -> bool
+        ensures { result ≡ (nat_lt channel 16 && nat_lt (length (tapes_of self.now channel)) 64) }
+    {
+        self.tapes
+            .get(usize::from(channel))
+            .is_some_and(|tape| tape.has_room())
     }
 
     // A value more on the channel's tape. A channel that there is not, or a tape of 64 values, changes nothing.
