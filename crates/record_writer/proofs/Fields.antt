@@ -1,11 +1,10 @@
 -- A field's bytes, and when it is 0. Assumes nothing.
-use Rattle.std.proofs.Common.{◌≡◌, ℕ, zero, suc, ◌+◌, ◌*◌, ◌%◌, ◌^◌, ◌<◌, ◌==◌, if◌then◌else◌, List, [], ◌∷◌, ◌++◌, length, replicate, refl, sym, ap, ◌∙◌, append_assoc, append-nil, arith}
+use Rattle.std.proofs.Common.{◌≡◌, ℕ, zero, suc, ◌+◌, ◌*◌, ◌%◌, ◌<◌, ◌==◌, if◌then◌else◌, List, [], ◌∷◌, length, replicate, refl, sym, ap, ◌∙◌, arith}
 use Rattle.std.proofs.lemmas.Bool.Decides.{Decides-eqb, same_from_decides}
 use Rattle.std.specs.Cmp.{unsigned_Decides}
 use Rattle.std.specs.Cmp.Lexicographic.{pointwise, pointwise_decides}
-use Rattle.format.specs.Numbers.{number, bytes_of}
+use Rattle.format.specs.Numbers.{number}
 use Rattle.format.specs.Encoding.{field_of}
-use Rattle.format.proofs.Round.{number_bytes_of}
 
 number_zeros : (n : ℕ) → number (replicate n 0) ≡ 0
 number_zeros zero = refl
@@ -27,11 +26,3 @@ zero_test n bs e =
 -- a byte is written where it is not 0
 pub byte_written : (v : ℕ) → v < 256 → (if number (v ∷ []) == 0 then [] else v ∷ []) ≡ field_of 1 v
 byte_written v h = let low : v % 256 ≡ v = omega arith in let same : v + 256 * 0 ≡ v = omega arith in simp (low, same)
-
--- a value in w bytes is written where it is not 0
-pub written : (w v : ℕ) → v < 256 ^ w → (if number (bytes_of w v) == 0 then [] else bytes_of w v) ≡ field_of w v
-written w v h = simp (number_bytes_of w v h)
-
--- the map, kind and registers, and three more fields, one after another
-pub joined : (m : ℕ) (r0 r4 r5 r6 r7 f1 f2 f3 f4 f5 f6 f7 : List ℕ) → r0 ≡ m ∷ [] → r4 ≡ r0 ++ (f1 ++ (f2 ++ (f3 ++ f4))) → r5 ≡ r4 ++ f5 → r6 ≡ r5 ++ f6 → r7 ≡ r6 ++ f7 → r7 ≡ m ∷ (f1 ++ (f2 ++ (f3 ++ (f4 ++ (f5 ++ (f6 ++ (f7 ++ [])))))))
-joined m r0 r4 r5 r6 r7 f1 f2 f3 f4 f5 f6 f7 e0 e4 e5 e6 e7 = simp (e7, e6, e5, e4, e0, append_assoc, append-nil)

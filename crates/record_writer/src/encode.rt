@@ -118,7 +118,6 @@ impl FileRecord for Channel {
 impl FileRecord for Instruction {
     ghost encoded = { encode_instruction };
 
-    // Its answer is by hand: the search does not join the appended parts.
     fn to_bytes(self) -> RecordBytes {
         let f = self.fields();
         let mut record = RecordBytes::empty();

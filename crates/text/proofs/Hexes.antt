@@ -1,9 +1,8 @@
 -- Steps of the loops over hex text. Assumes nothing.
-use Rattle.std.proofs.Common.{◌≡◌, ℕ, zero, suc, ◌+◌, ◌*◌, ◌/◌, ◌<◌, ◌≤◌, List, [], ◌∷◌, ◌++◌, length, get_or, drop, Some, None, Ok, Err, Option, Result, sym, refl, ap, ◌∙◌, append_assoc, append-nil, arith}
-use Rattle.std.proofs.lemmas.List.{drop_more, length-drop, nil_from_length}
+use Rattle.std.proofs.Common.{◌≡◌, ℕ, zero, suc, ◌+◌, ◌*◌, ◌/◌, ◌<◌, ◌≤◌, List, [], ◌∷◌, ◌++◌, length, get_or, drop, Some, Ok, Err, Option, Result, sym, refl, ap, ◌∙◌, append_assoc, arith}
+use Rattle.std.proofs.lemmas.List.{drop_more}
 use Rattle.std.specs.Simd.{first_chunks}
 use Rattle.text.specs.declared.error.LineError.{LineError}
-use Rattle.text.specs.declared.error.LineError.TheVariants.{OddHex, HexDigit}
 use Rattle.text.specs.Hex.{before, byte_of, decoded}
 
 -- the bytes xs, and what the rest of the text gives after them
@@ -37,11 +36,6 @@ pub begins : (t u xs : List ℕ) (ps : List (List ℕ)) → xs ≡ [] → ps ≡
 begins t u xs ps none front back =
     ap (λ l. after l (paired ps u)) none ∙ after_nil (paired ps u) ∙ ap (λ l. paired l u) front ∙ ap (paired (first_chunks 2 (length t / 2) t)) back ∙ of_pairs (length t / 2) t (omega arith)
 
-single : (t : List ℕ) → 0 < length t → length t < 2 → decoded t ≡ Err OddHex
-single [] some few = absurd (omega arith)
-single (c ∷ []) some few = refl
-single (c ∷ e ∷ t) some few = absurd (omega arith)
-
 module _ (ps : List (List ℕ)) (t xs : List ℕ) (i : ℕ) (d : Result (List ℕ) LineError) (inv : after xs (paired (drop i ps) t) ≡ d) where
   abbrev pub at : Option ℕ
   at = byte_of (get_or (get_or ps i []) 0 0) (get_or (get_or ps i []) 1 0)
@@ -54,18 +48,3 @@ module _ (ps : List (List ℕ)) (t xs : List ℕ) (i : ℕ) (d : Result (List �
   more ys b lt is items =
       let rest = paired (drop (i + 1) ps) t in
       ap (λ l. after l rest) items ∙ sym (after_more xs b rest) ∙ ap (λ o. after xs (before o rest)) is ∙ here lt
-
-  -- a pair that is no byte
-  pub none : i < length ps → None ≡ at → d ≡ Err HexDigit
-  none lt is = sym (ap (λ o. after xs (before o (paired (drop (i + 1) ps) t))) is ∙ here lt)
-
-  past : length ps ≤ i → after xs (decoded t) ≡ d
-  past le = ap (λ l. after xs (paired l t)) (sym (nil_from_length (drop i ps) (omega (arith, length-drop i ps)))) ∙ inv
-
-  -- no pair is left, and no digit
-  pub even : length ps ≤ i → length t ≡ 0 → d ≡ Ok xs
-  even le e = sym (past le) ∙ ap (λ l. after xs (decoded l)) (nil_from_length t e) ∙ ap Ok (append-nil xs)
-
-  -- no pair is left, and one digit is
-  pub odd : length ps ≤ i → 0 < length t → length t < 2 → d ≡ Err OddHex
-  odd le some few = sym (past le) ∙ ap (after xs) (single t some few)

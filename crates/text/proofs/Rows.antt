@@ -1,7 +1,6 @@
 -- Entries one after another, 16 at most. Assumes nothing.
-use Rattle.std.proofs.Common.{◌≡◌, ℕ, suc, ◌+◌, ◌-◌, ◌<◌, ◌⊎◌, inl, inr, List, [], ◌∷◌, ◌++◌, length, drop, replicate, Ok, Err, Result, sym, refl, ap, ◌∙◌, append_assoc, append-nil, arith}
+use Rattle.std.proofs.Common.{◌≡◌, ℕ, suc, ◌+◌, ◌-◌, ◌<◌, List, [], ◌∷◌, ◌++◌, length, drop, replicate, Ok, Err, Result, sym, refl, ap, ◌∙◌, append_assoc, arith}
 use Rattle.text.specs.declared.error.LineError.{LineError}
-use Rattle.text.specs.declared.error.LineError.TheVariants.{Memory}
 use Rattle.std.proofs.lemmas.List.{drop-replicate}
 use Rattle.text.specs.Answers.{then}
 use Rattle.text.specs.Arguments.{entries_from, table_from}
@@ -38,20 +37,7 @@ module _ (f : List ℕ → Result ℕ LineError) where
       s.left ∙ ap (onto xs) (one_left i vs (w ∷ us) lt ev)
       ∙ ap (λ r. onto xs (then r (λ y. then (entries_from f (16 - (i + 1)) us) (λ p. Ok (y ∷ p.0, p.1))))) er
 
-  -- no word is left
-  pub short : (ws : List (List ℕ)) (i : ℕ) (xs : List ℕ) (vs us : List (List ℕ)) → i < 16 → vs ≡ [] → us ≡ [] → Sofar ws i xs vs → entries_from f 16 ws ≡ Ok (xs, us)
-  short ws i xs vs us lt ev eu s =
-      s.left ∙ ap (onto xs) (one_left i vs [] lt ev) ∙ ap (λ l. Ok (l, [])) (append-nil xs) ∙ ap (λ l. Ok (xs, l)) (sym eu)
-
-  -- there are 16
-  pub done : (ws : List (List ℕ)) (i : ℕ) (xs : List ℕ) (vs : List (List ℕ)) → i ≡ 16 → Sofar ws i xs vs → entries_from f 16 ws ≡ Ok (xs, vs)
-  done ws i xs vs e s = s.left ∙ ap (λ j. onto xs (entries_from f (16 - j) vs)) e ∙ ap (λ l. Ok (l, vs)) (append-nil xs)
-
   -- a table of them
-  pub table_err : (ws : List (List ℕ)) (e : LineError) → (e ≡ Memory) ⊎ (entries_from f 16 ws ≡ Err e) → (e ≡ Memory) ⊎ (table_from f 16 ws ≡ Err e)
-  table_err ws e (inl m) = inl m
-  table_err ws e (inr s) = inr (ap (λ r. then r (λ p. Ok (p.0 ++ replicate (16 - length p.0) 0, p.1))) s)
-
   pub table_ok : (ws vs : List (List ℕ)) (xs ys : List ℕ) (n : ℕ) → entries_from f 16 ws ≡ Ok (xs, vs) → n ≡ length xs → ys ≡ xs → table_from f 16 ws ≡ Ok (ys ++ drop n (replicate 16 0), vs)
   table_ok ws vs xs ys n s len is =
       ap (λ r. then r (λ p. Ok (p.0 ++ replicate (16 - length p.0) 0, p.1))) s

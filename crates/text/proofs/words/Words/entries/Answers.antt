@@ -1,7 +1,7 @@
 use Rattle.std.proofs.Common.{vec_items, sym, inr, refl, rules}
 use Rattle.std.proofs.lemmas.Result.{err_from_is_err_and}
 use Rattle.text.specs.Words.{left}
-use Rattle.text.proofs.Rows.{more, stop, short, done}
+use Rattle.text.proofs.Rows.{more, stop}
 use Rattle.text.proofs.words.Words.entries.Goals as goal
 
 pub loop-preserved : goal.loop-preserved
@@ -11,13 +11,7 @@ loop-preserved g c = record {
       (search rules) c.in-Some.ensures (sym (c.requires.1.1 _ _ c.in_ok-read.ensures)) refl c.in_ok-push.ensures.items c.loop.invariant.are;
 }
 
-pub returns-in_default-clause-are : goal.returns-in_default-clause-are
-returns-in_default-clause-are g c = short g.f _ c.loop.counter _ _ _ (search rules) c.in_default.ensures.0 c.in_default.ensures.1 c.loop.invariant.are
-
 pub returns-in_err-read-clause-are : goal.returns-in_err-read-clause-are
 returns-in_err-read-clause-are g c =
     let p = err_from_is_err_and c.from_residual.result c.from_residual.ensures.1 in
     rw (p.1, p.2) (inr (stop g.f _ c.loop.counter _ _ c.in-Some.word.now _ _ (search rules) c.in-Some.ensures (sym (c.requires.1.1 _ _ c.in_err-read.ensures)) c.loop.invariant.are))
-
-pub returns-clause-are : goal.returns-clause-are
-returns-clause-are g c = done g.f _ c.loop.counter _ _ (search rules) c.loop.invariant.are
