@@ -20,7 +20,7 @@ map_of (v ∷ vs) = cond (v == 0) 0 1 + 2 * map_of vs
 abbrev pub field_of : ℕ → ℕ → List ℕ
 field_of w v = cond (v == 0) [] (bytes_of w v)
 
--- the fields with the values vs, of the widths ws
+-- the fields with the values vs, of the widths ws; the shorter list ends it
 abbrev pub body_of : List ℕ → List ℕ → List ℕ
 body_of [] vs = []
 body_of (w ∷ ws) [] = []
@@ -30,31 +30,35 @@ body_of (w ∷ ws) (v ∷ vs) = field_of w v ++ body_of ws vs
 abbrev pub record_of : List ℕ → List ℕ → List ℕ
 record_of ws vs = map_of vs ∷ body_of ws vs
 
--- direction and level, a byte each
+-- how wide the fields of a channel are: direction and level, a byte each
 abbrev pub channel_widths : List ℕ
 channel_widths = 1 ∷ 1 ∷ []
 
+-- the numbers in the two fields of a channel
 abbrev pub channel_values : Channel → List ℕ
 channel_values c = code_of c.direction ∷ c.level ∷ []
 
+-- the record of a channel in a file
 abbrev pub encode_channel : Channel → List ℕ
 encode_channel c = record_of channel_widths (channel_values c)
 
--- kind, target, first, second, number, place and channel
+-- how wide the fields of an instruction are: kind, target, first, second, number, place and channel
 abbrev pub instruction_widths : List ℕ
 instruction_widths = 1 ∷ 1 ∷ 1 ∷ 1 ∷ 4 ∷ 2 ∷ 1 ∷ []
 
--- the number as its 32 bits, in two's complement
+-- the numbers in the seven fields; the number itself as its 32 bits, in two's complement
 abbrev pub field_values : Fields → List ℕ
 field_values f = f.kind ∷ f.target ∷ f.first ∷ f.second ∷ of_z w32 f.number ∷ f.place ∷ f.channel ∷ []
 
+-- the numbers in the seven fields of an instruction: 0 in each that its kind does not use
 abbrev pub instruction_values : Instruction → List ℕ
 instruction_values i = field_values (fields_of i)
 
+-- the record of an instruction in a file
 abbrev pub encode_instruction : Instruction → List ℕ
 encode_instruction i = record_of instruction_widths (instruction_values i)
 
--- n, c, the channels, m in two bytes, and the instructions
+-- the file of a model: n, c, the channels, m in two bytes, and the instructions
 abbrev pub encode_model : Model → List ℕ
 encode_model s =
     s.levels
@@ -66,10 +70,10 @@ encode_model s =
 abbrev pub encode : Script → List ℕ
 encode s = encode_model (model_of s)
 
--- the byte that the record of channel k begins at
+-- the byte that the record of channel k begins at; for k from c on, the byte after all channels
 abbrev pub channel_start : Model → ℕ → ℕ
 channel_start s k = 2 + length (flat_map encode_channel (take k s.channels))
 
--- the byte that the record of instruction k begins at
+-- the byte that the record of instruction k begins at; for k from m on, the file's length
 abbrev pub instruction_start : Model → ℕ → ℕ
 instruction_start s k = 4 + length (flat_map encode_channel s.channels) + length (flat_map encode_instruction (take k s.instructions))

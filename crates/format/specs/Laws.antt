@@ -49,15 +49,16 @@ pub record ByteWithin (bs : List ℕ) (f : Fault) : Type 0 where
   pub at_end : f.refusal ≡ why.Short → f.byte ≡ length bs
   pub before : (f.refusal ≢ why.Short) → f.byte < length bs
 
+-- and so it is of every refusal of every file
 abbrev pub EveryByteWithin : Type 0
 EveryByteWithin = (bs : List ℕ) (f : Fault) → Refused bs f → ByteWithin bs f
 
--- how many bytes the fields have that a map announces
+-- how many bytes the fields have that the map m announces, in a record whose fields have the widths ws
 abbrev pub announced : List ℕ → ℕ → ℕ
 announced [] m = 0
 announced (w ∷ ws) m = cond (odd m) w 0 + announced ws (m / 2)
 
--- and the record at the front of rest with its map; where the file ends before the map, the map alone
+-- how many bytes the record at the front of rest has by its map, the map included; 1 where not even the map is there
 abbrev pub record_size : List ℕ → List ℕ → ℕ
 record_size ws [] = 1
 record_size ws (m ∷ rest) = 1 + announced ws m

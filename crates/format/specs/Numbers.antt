@@ -2,7 +2,7 @@
 use Rattle.std.specs.Prelude.{ℕ, zero, suc, ◌+◌, ◌*◌, ◌/◌, ◌%◌, ◌<◌, Bool, List, [], ◌∷◌, ◌==◌}
 use Rattle.std.specs.List.{AllByRecursion}
 
--- v in w bytes, low byte first
+-- v in w bytes, low byte first; of a v that needs more bytes, the low w
 abbrev pub bytes_of : ℕ → ℕ → List ℕ
 bytes_of zero v = []
 bytes_of (suc w) v = v % 256 ∷ bytes_of w (v / 256)
@@ -12,6 +12,7 @@ abbrev pub number : List ℕ → ℕ
 number [] = 0
 number (b ∷ bs) = b + 256 * number bs
 
+-- whether the lowest bit of m is one
 abbrev pub odd : ℕ → Bool
 odd m = m % 2 == 1
 

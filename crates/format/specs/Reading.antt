@@ -26,14 +26,17 @@ abbrev pub and_then : {X Y E : Type 0} → Result X E → (X → Result Y E) →
 and_then (Ok x) next = next x
 and_then (Err e) next = Err e
 
+-- x where there is no fault, else the fault
 abbrev pub unless : {X : Type 0} → Option Fault → X → Result X Fault
 unless None x = Ok x
 unless (Some f) x = Err f
 
+-- the file ends before something that must be in this record: SHORT at the file's length
 abbrev pub short_at : Site → Fault
 short_at s = fault why.Short s.length s.part
 
--- the field of w bytes at the front of bs, and what is left
+-- the field of w bytes at the front of bs, and what is left; a field that is not announced is absent and takes no byte,
+-- and one that the file ends before is SHORT
 abbrev pub read_field : Site → ℕ → Bool → List ℕ → Result (Field × List ℕ) Fault
 read_field s w false bs = Ok (record { byte = s.map_at; value = None }, bs)
 read_field s w true bs =
@@ -41,22 +44,24 @@ read_field s w true bs =
     (Ok (record { byte = s.length - length bs; value = Some (number (take w bs)) }, drop w bs))
     (Err (short_at s))
 
--- the fields of the widths ws, lowest bit of the map first
+-- the fields of the widths ws that the map m announces, lowest bit first; the others are absent
 abbrev pub read_fields : Site → List ℕ → ℕ → List ℕ → Result (List Field × List ℕ) Fault
 read_fields s [] m bs = Ok ([], bs)
 read_fields s (w ∷ ws) m bs =
     and_then (read_field s w (odd m) bs) (λ x.
     and_then (read_fields s ws (m / 2) x.1) (λ y. Ok (x.0 ∷ y.0, y.1)))
 
--- a record with the fields ws, its own rules, and what its fields make: first the map's bits, then the fields up to
--- the file's end, then zeros, then its own rules
+-- a record with the fields ws, its own rules, and what its fields make: first the map byte and its bits, then the
+-- fields up to the file's end, then zeros, then its own rules
 module _ {X : Type 0} (ws : List ℕ) (rules : Site → List Field → List Rule) (make : List Field → X) where
+  -- what is read once the map byte m is
   abbrev pub read_body : Site → ℕ → List ℕ → Result (X × List ℕ) Fault
   read_body s m bs =
       cond (nat_lt m (2 ^ length ws))
       (and_then (read_fields s ws m bs) (λ x. unless (broken (map (not_zero s) x.0 ++ rules s x.0)) (make x.0, x.1)))
       (Err (fault why.Map s.map_at s.part))
 
+  -- the whole record, its map byte first
   abbrev pub read_record : Site → List ℕ → Result (X × List ℕ) Fault
   read_record s [] = Err (short_at s)
   read_record s (m ∷ bs) = read_body s m bs
@@ -65,9 +70,11 @@ module _ {X : Type 0} (ws : List ℕ) (rules : Site → List Field → List Rule
 abbrev pub site_at : ℕ → Part → List ℕ → Site
 site_at end p bs = record { length = end; part = p; map_at = end - length bs }
 
+-- 0 is in, every other number out
 abbrev pub direction_of : ℕ → Direction
 direction_of v = cond (v == 0) In Out
 
+-- the channel that the two fields of its record make
 abbrev pub channel_of : List Field → Channel
 channel_of fs = record { direction = direction_of (value_of (at fs 0)); level = value_of (at fs 1) }
 
@@ -75,9 +82,11 @@ channel_of fs = record { direction = direction_of (value_of (at fs 0)); level = 
 abbrev pub read_channel : ℕ → ℕ → ℕ → List ℕ → Result (Channel × List ℕ) Fault
 read_channel end i n bs = read_record channel_widths (channel_rules n) channel_of (site_at end (part.Channel i) bs) bs
 
+-- the operation of a kind from 2 to 8; any other number counts as 8
 abbrev pub operation_of : ℕ → Operation
 operation_of k = cond (k == 2) Add (cond (k == 3) Subtract (cond (k == 4) Multiply (cond (k == 5) Quotient (cond (k == 6) Remainder (cond (k == 7) Less Same)))))
 
+-- the instruction that the seven fields of its record make, by those that its kind uses; a kind above 12 is a stop
 abbrev pub instruction_of : List Field → Instruction
 instruction_of fs =
     let k = value_of (at fs 0) in
@@ -95,23 +104,25 @@ instruction_of fs =
 abbrev pub read_instruction : ℕ → ℕ → List Channel → ℕ → List ℕ → Result (Instruction × List ℕ) Fault
 read_instruction end i cs m bs = read_record instruction_widths (instruction_rules cs m) instruction_of (site_at end (part.Instruction i) bs) bs
 
--- k records, the first of index i
+-- k records one after another, the first of them with index i
 abbrev pub read_many : {X : Type 0} → (ℕ → List ℕ → Result (X × List ℕ) Fault) → ℕ → ℕ → List ℕ → Result (List X × List ℕ) Fault
 read_many one zero i bs = Ok ([], bs)
 read_many one (suc k) i bs = and_then (one i bs) (λ x. and_then (read_many one k (i + 1) x.1) (λ y. Ok (x.0 ∷ y.0, y.1)))
 
+-- the c channel records of a script of n levels, in a file of length end
 abbrev pub read_channels : ℕ → ℕ → ℕ → List ℕ → Result (List Channel × List ℕ) Fault
 read_channels end n c bs = read_many (λ i bs. read_channel end i n bs) c 0 bs
 
+-- the m instruction records of a script with the channels cs, in a file of length end
 abbrev pub read_instructions : ℕ → List Channel → ℕ → List ℕ → Result (List Instruction × List ℕ) Fault
 read_instructions end cs m bs = read_many (λ i bs. read_instruction end i cs m bs) m 0 bs
 
--- n or c, from low to high
+-- one byte of the head, n or c, from low to high
 abbrev pub read_head : ℕ → ℕ → ℕ → List ℕ → Result (ℕ × List ℕ) Fault
 read_head end low high [] = Err (fault why.Short end part.Head)
 read_head end low high (b ∷ bs) = cond (nat_le low b && nat_le b high) (Ok (b, bs)) (Err (fault why.Head (end - length (b ∷ bs)) part.Head))
 
--- m, in two bytes
+-- the two bytes of m, from 1 to 256
 abbrev pub read_count : ℕ → List ℕ → Result (ℕ × List ℕ) Fault
 read_count end [] = Err (fault why.Short end part.Count)
 read_count end (a ∷ []) = Err (fault why.Short end part.Count)
@@ -119,11 +130,12 @@ read_count end (a ∷ b ∷ bs) =
     let m = a + b * 256 in
     cond (nat_le 1 m && nat_le m 256) (Ok (m, bs)) (Err (fault why.Head (end - length (a ∷ b ∷ bs)) part.Count))
 
--- nothing is left
+-- x, where nothing is left after the last record
 abbrev pub read_tail : {X : Type 0} → ℕ → X → List ℕ → Result X Fault
 read_tail end x [] = Ok x
 read_tail end x (b ∷ bs) = Err (fault why.Tail (end - length (b ∷ bs)) part.Tail)
 
+-- the model whose file it is, or the first fault: n, c, the channels, m, the instructions, and no more
 abbrev pub read_file : List ℕ → Result Model Fault
 read_file bs =
     let end = length bs in

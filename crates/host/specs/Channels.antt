@@ -24,49 +24,54 @@ abbrev pub on_ok : {A X : Type 0} → Result A Refusal → X → X → X
 on_ok (Ok _) x y = x
 on_ok (Err _) x y = y
 
--- what holds of an accepted call, and of a refused one
+-- what holds of an accepted call; of a refused one it says nothing
 abbrev pub IfAccepted : {A : Type 0} → Result A Refusal → Type 0 → Type 0
 IfAccepted (Ok _) P = P
 IfAccepted (Err _) P = Unit {0}
 
+-- what holds of a refused call; of an accepted one it says nothing
 abbrev pub IfRefused : {A : Type 0} → Result A Refusal → Type 0 → Type 0
 IfRefused (Ok _) P = Unit {0}
 IfRefused (Err _) P = P
 
--- a channel that there is not is refused
+-- CHANNEL where there is no such channel, else the answer r
 abbrev pub of_channel : {A : Type 0} → Channels → ℕ → Result A Refusal → Result A Refusal
 of_channel b c r = cond (nat_lt c b.count) r (Err Channel)
 
--- how many values a channel holds, and how many more it can take: - stops at 0
+-- what held answers: how many values the channel holds
 abbrev pub stored : Channels → ℕ → Result ℕ Refusal
 stored b c = of_channel b c (Ok (length (b.list c)))
 
+-- what space answers: how many more values the channel can take, 0 where it holds its capacity or more (- stops at 0)
 abbrev pub lacking : Channels → ℕ → Result ℕ Refusal
 lacking b c = of_channel b c (Ok (b.capacity c - length (b.list c)))
 
--- a value more fits a list that is shorter than the capacity
+-- whether one value more fits a list of capacity k: where it is shorter than k, else FULL
 abbrev pub push_answer : ℕ → List ℤ → Result (Unit {0}) Refusal
 push_answer k vs = cond (nat_lt (length vs) k) (Ok tt) (Err Full)
 
--- the oldest value, and those after it
+-- the value that is taken: the oldest, or EMPTY where there is none
 abbrev pub oldest : List ℤ → Result ℤ Refusal
 oldest [] = Err Empty
 oldest (v ∷ vs) = Ok v
 
+-- and the values after it
 abbrev pub rest : List ℤ → List ℤ
 rest [] = []
 rest (v ∷ vs) = vs
 
--- a put adds at the end
+-- what a put answers: CHANNEL, then FULL, else done
 abbrev pub put_answer : Channels → ℕ → Result (Unit {0}) Refusal
 put_answer b c = of_channel b c (push_answer (b.capacity c) (b.list c))
 
+-- what a put leaves: the value at the end of the channel's list; all as it was where it is refused
 abbrev pub after_put : Channels → ℕ → ℤ → Channels
 after_put b c v = on_ok (put_answer b c) (with_list b c (b.list c ++ (v ∷ []))) b
 
--- a take removes the oldest
+-- what a take answers: CHANNEL, then EMPTY, else the oldest value of the channel
 abbrev pub take_answer : Channels → ℕ → Result ℤ Refusal
 take_answer b c = of_channel b c (oldest (b.list c))
 
+-- what a take leaves: the channel without its oldest value; all as it was where it is refused
 abbrev pub after_take : Channels → ℕ → Channels
 after_take b c = on_ok (take_answer b c) (with_list b c (rest (b.list c))) b

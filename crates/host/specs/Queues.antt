@@ -6,9 +6,10 @@ use Rattle.host.specs.Channels.{Channels}
 abbrev pub queued : {Q : Type 0} → (Q → List ℤ) → (Q → ℕ) → ℕ → List Q → Channels
 queued list room k qs = record { count = length qs; capacity = λ c. slice_index_or (map room qs) c k; list = λ c. slice_index_or (map list qs) c [] }
 
--- where the memory is nobody else's there is nothing to say of it
+-- a put on a host whose memory is nobody else's: there is nothing to say of it
 abbrev pub NoMemoryPut : {H : Type 0} → H → ℕ → ℤ → H → Type 0
 NoMemoryPut h c v k = Unit {0}
 
+-- and the same of a take
 abbrev pub NoMemoryTake : {H : Type 0} → H → ℕ → H → Type 0
 NoMemoryTake h c k = Unit {0}

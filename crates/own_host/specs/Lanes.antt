@@ -10,12 +10,14 @@ use Rattle.own_host.specs.declared.lanes.HeapHost.{HeapHost}
 abbrev pub contents : Lane → List ℤ
 contents l = deque_items l.values
 
+-- how many values one lane can hold
 abbrev pub room : Lane → ℕ
 room l = l.capacity
 
--- a channel for each lane
+-- a channel for each lane, the first with number 0
 abbrev pub lanes : List Lane → Channels
 lanes = queued contents room 1
 
+-- what a heap host means: the channels that its lanes are
 abbrev pub channels_of : HeapHost → Channels
 channels_of h = lanes (vec_items h.lanes)

@@ -18,5 +18,6 @@ at_most [] c = omega arith
 at_most (l ∷ ls) zero = l.bounded
 at_most (l ∷ ls) (suc c) = at_most ls c
 
+-- so every heap host has at most 16 channels, each of a capacity from 1 to 65,535
 pub heap_lawful : (h : HeapHost) → Lawful (channels_of h)
 heap_lawful h = record { few = h.few; roomy = λ c _. at_least (vec_items h.lanes) c; bounded = λ c _. at_most (vec_items h.lanes) c }

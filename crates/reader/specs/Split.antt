@@ -14,7 +14,7 @@ use Rattle.reader.specs.declared.split.Record.TheVariants.{Channel, Instruction}
 abbrev pub Stands : List ℕ → ℕ → List ℕ → Type 0
 Stands file p bytes = take (length bytes) (drop p file) ≡ bytes
 
--- the record with index k of a file with the model s: channels first, then instructions
+-- the record is the one with index k in the file of the model s, channels first, and p is the number of its first byte
 abbrev pub Hands : Model → List ℕ → ℕ → ℕ → Record → Type 0
 Hands s file k p (Channel b) =
     (k < length s.channels)
@@ -28,7 +28,7 @@ Hands s file k p (Instruction b) =
     × (b.now ≡ encode_instruction (slice_index_or s.instructions (k - length s.channels) Skip))
     × Stands file p b.now
 
--- nothing past the last record
+-- that record, or nothing where k is past the last
 abbrev pub Handed : Model → List ℕ → ℕ → Option (ℕ × Record) → Type 0
 Handed s file k None = length s.channels + length s.instructions ≤ k
 Handed s file k (Some x) = Hands s file k x.0 x.1

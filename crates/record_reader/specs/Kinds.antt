@@ -4,6 +4,7 @@ use Rattle.script.specs.Kinds.{kind_of}
 use Rattle.record_reader.specs.declared.kind.Kind.{Kind}
 use Rattle.record_reader.specs.declared.kind.Kind.TheVariants.{Skip, Set, Compute, Jump, Input, Output, Stop}
 
+-- the number of each kind in a file, as docs/scripts.md lists them
 abbrev pub kind_number : Kind → ℕ
 kind_number Skip = 0
 kind_number Set = 1

@@ -5,6 +5,7 @@ use Rattle.refusal.specs.declared.Fault.{Fault}
 use Rattle.format.specs.declared.layout.Field.{Field}
 use Rattle.record_reader.specs.declared.record.RecordFields.{RecordFields}
 
+-- the seven fields in the order of the map's bits
 abbrev pub listed : RecordFields → List Field
 listed f = f.kind ∷ f.target ∷ f.first ∷ f.second ∷ f.number ∷ f.place ∷ f.channel ∷ []
 

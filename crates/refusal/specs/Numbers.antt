@@ -3,6 +3,7 @@ use Rattle.std.specs.Prelude.{List, ℕ, codes}
 use Rattle.refusal.specs.declared.Refusal.{Refusal}
 use Rattle.refusal.specs.declared.Refusal.TheVariants.{Short, Head, Map, Zero, Range, Tail, Order, Levels, Channels, Channel, Direction, Level, Buffer, Full, Empty, Spent}
 
+-- the number that the table of docs/refusals.md gives each refusal
 abbrev pub number_of : Refusal → ℕ
 number_of Short = 1
 number_of Head = 2
@@ -21,6 +22,7 @@ number_of Full = 14
 number_of Empty = 15
 number_of Spent = 16
 
+-- and its NAME there, letter by letter
 abbrev pub name_of : Refusal → List ℕ
 name_of Short = codes "SHORT"
 name_of Head = codes "HEAD"

@@ -41,7 +41,7 @@ pub record Lawful (r : Order) : Type 0 where
   -- neither does (one way is said; the sets may change places)
   pub from_below : (p l : ℕ) (s t : Levels) → ((a : ℕ) → r.flows a l ≡ true → s a ≡ t a) → r.picks p s ≡ Some l → r.picks p t ≡ Some l
 
--- the level numbered as the place is picked if it is ready, and else nobody
+-- at a place below n the level numbered as the place is picked if it is ready, and else nobody; never another
 abbrev pub own_turn : ℕ → ℕ → Levels → Option ℕ
 own_turn n p s = cond (nat_lt p n && s p) (Some p) None
 

@@ -8,11 +8,11 @@ use Rattle.script.specs.declared.parts.Instruction.{Instruction}
 use Rattle.script.specs.declared.parts.Instruction.TheVariants.{Skip, Set, Compute, Jump, Input, Output, Stop}
 use Rattle.script.specs.Kinds.{fields_of}
 
--- the operation of a kind
+-- the operation of a kind from 2 to 8; any other number counts as 8
 abbrev pub operation_from : ℕ → Operation
 operation_from k = cond (k == 2) Add (cond (k == 3) Subtract (cond (k == 4) Multiply (cond (k == 5) Quotient (cond (k == 6) Remainder (cond (k == 7) Less Same)))))
 
--- the instruction that has these fields
+-- the instruction of this kind, with those of these fields that the kind uses; a kind above 12 counts as 8
 abbrev pub instruction_from : Fields → Instruction
 instruction_from f =
     cond (f.kind == 0) Skip
@@ -26,6 +26,7 @@ instruction_from f =
 abbrev pub KnownByFields : Type 0
 KnownByFields = (x : Instruction) → instruction_from (fields_of x) ≡ x
 
+-- and so it is, of each kind and each operation
 pub instruction_back : KnownByFields
 instruction_back Skip = refl
 instruction_back (Set target number) = refl

@@ -12,6 +12,7 @@ use Rattle.script.specs.declared.accepted.Script.{Script}
 use Rattle.script.specs.Laws.{blank, sound, Headed, Counted, Below, Sound}
 use Rattle.script.specs.Model.{Model, model_of}
 
+-- a refusal together with the part that it is about
 abbrev pub flaw : Refusal → Part → Flaw
 flaw r p = record { refusal = r; part = p }
 
@@ -46,9 +47,10 @@ Broken s r (part.Instruction i) =
     × FirstUnsound s.channels s.instructions i
 Broken s r part.Tail = ⊥
 
+-- f tells the first part that breaks a law, and its refusal
 abbrev pub Flawed : Model → Flaw → Type 0
 Flawed s f = Broken s f.refusal f.part
 
--- the script that holds the model, or the first flaw
+-- r is the script that holds the model, or the model's first flaw
 abbrev pub Builds : Model → Result Script Flaw → Type 0
 Builds m r = MatchResult r (λ s. model_of s ≡ m) (λ f. Flawed m f)

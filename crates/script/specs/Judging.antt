@@ -7,12 +7,13 @@ use Rattle.script.specs.declared.parts.Direction.TheVariants.{In, Out}
 use Rattle.script.specs.declared.parts.Channel.{Channel}
 use Rattle.script.specs.Laws.{blank, same}
 
--- do values go that way, where they go out or do not
+-- is a channel of that direction, where it is known whether it is out
 abbrev pub goes : Direction → Bool → Bool
 goes In out = not out
 goes Out out = out
 
--- is channel k one of the first c, and do values go by it that way
+-- CHANNEL where k is not one of the first c channels, else DIRECTION where channel k is of the other direction, else
+-- nothing to say
 abbrev pub judging : Direction → List Channel → ℕ → ℕ → Result (Unit {0}) Refusal
 judging d cs c k =
     cond (nat_lt k c) (cond (goes d (same Out (get_or cs k blank).direction)) (Ok tt) (Err why.Direction)) (Err why.Channel)

@@ -8,10 +8,12 @@ use Rattle.script.specs.declared.parts.Instruction.{Instruction}
 use Rattle.script.specs.declared.parts.Instruction.TheVariants.{Skip, Set, Compute, Jump, Input, Output, Stop}
 use Rattle.script.specs.declared.parts.Fields.{Fields}
 
+-- the number that a direction has in a file
 abbrev pub code_of : Direction → ℕ
 code_of In = 0
 code_of Out = 1
 
+-- the kind of each operation: the seven kinds that compute
 abbrev pub kind_of : Operation → ℕ
 kind_of Add = 2
 kind_of Subtract = 3
@@ -21,7 +23,7 @@ kind_of Remainder = 6
 kind_of Less = 7
 kind_of Same = 8
 
--- the seven fields of a file: those that a kind has, and 0 for the others
+-- the seven fields of an instruction: those that its kind uses, and 0 for the others
 abbrev pub fields_of : Instruction → Fields
 fields_of Skip = record { kind = 0; target = 0; first = 0; second = 0; number = pos 0; place = 0; channel = 0 }
 fields_of (Set target number) = record { kind = 1; target = target; first = 0; second = 0; number = number; place = 0; channel = 0 }

@@ -6,10 +6,11 @@ use Rattle.script.specs.declared.parts.Channel.{Channel}
 use Rattle.script.specs.declared.parts.Instruction.{Instruction}
 use Rattle.script.specs.declared.parts.Instruction.TheVariants.{Skip, Set, Compute, Jump, Input, Output, Stop}
 
--- the record that fills a table past its count
+-- the blank channel: what fills the table of channels from the count on
 abbrev pub blank : Channel
 blank = record { direction = In; level = 0 }
 
+-- are two directions the same
 abbrev pub same : Direction → Direction → Bool
 same In In = true
 same In Out = false
@@ -20,7 +21,7 @@ same Out Out = true
 abbrev pub directed : Direction → List Channel → ℕ → ℕ → Bool
 directed d cs c k = nat_lt k c && same d (get_or cs k blank).direction
 
--- from -2147483648 to 2147483647; negsuc n is -1 - n
+-- is a number a value: from -2147483648 to 2147483647 (negsuc n is -1 - n)
 abbrev pub word : ℤ → Bool
 word (pos n) = nat_lt n 2147483648
 word (negsuc n) = nat_lt n 2147483648
@@ -36,11 +37,11 @@ sound cs c m (Input target channel) = nat_lt target 16 && directed In cs c chann
 sound cs c m (Output first channel) = nat_lt first 16 && directed Out cs c channel
 sound cs c m Stop = true
 
--- how many levels and channels there may be
+-- how many levels and channels there may be: 1 to 16, and at most 16
 abbrev pub Headed : ℕ → ℕ → Type 0
 Headed n c = (1 ≤ n) × (n ≤ 16) × (c ≤ 16)
 
--- and how many instructions
+-- and how many instructions: 1 to 256
 abbrev pub Counted : ℕ → Type 0
 Counted m = (1 ≤ m) × (m ≤ 256)
 
@@ -52,6 +53,6 @@ Below n cs c = (k : ℕ) → k < c → (get_or cs k blank).level < n
 abbrev pub Sound : List Channel → ℕ → ℕ → List Instruction → ℕ → Type 0
 Sound cs c m is i = (k : ℕ) → k < i → sound cs c m (slice_index_or is k Skip) ≡ true
 
--- a table holds d from place k on
+-- a table holds d at index k and at every later index that it has
 abbrev pub Blank : {X : Type 0} → X → ℕ → List X → Type 0
 Blank d k xs = (j : ℕ) → k ≤ j → slice_index_or xs j d ≡ d

@@ -5,6 +5,7 @@ use Rattle.script.specs.declared.parts.Instruction.{Instruction}
 use Rattle.script.specs.declared.accepted.Script.{Script}
 use Rattle.script.specs.Laws.{Headed, Counted, Below, Sound}
 
+-- what a script says: its number of levels, its channels and its instructions
 pub record Model : Type 0 where
   pub levels : ℕ
   pub channels : List Channel

@@ -7,7 +7,7 @@ use Rattle.strip.specs.declared.entry.Entry.{Entry}
 abbrev pub none : Entry
 none = record { channel = 0; value = pos 0 }
 
--- the values of one channel, in order
+-- the values of one channel, in the order of the entries
 abbrev pub listed : ℕ → List Entry → List ℤ
 listed c [] = []
 listed c (e ∷ es) = cond (e.channel == c) (e.value ∷ listed c es) (listed c es)
@@ -17,17 +17,17 @@ abbrev pub known : ℕ → List Entry → Bool
 known n [] = true
 known n (e ∷ es) = nat_lt e.channel n && known n es
 
--- the place of the first entry of a channel, or the length
+-- where the first entry of a channel stands, or the length where it has none
 abbrev pub place : ℕ → List Entry → ℕ
 place c [] = 0
 place c (e ∷ es) = cond (e.channel == c) 0 (suc (place c es))
 
--- all but the first entry of a channel
+-- all but the first entry of a channel; all where it has none
 abbrev pub without : ℕ → List Entry → List Entry
 without c [] = []
 without c (e ∷ es) = cond (e.channel == c) es (e ∷ without c es)
 
--- from a place on stand those after it, up to the first n, and the rest as before
+-- the entry at that place goes: those after it among the first n move one toward the front, and all others stay
 abbrev pub closed_up : ℕ → ℕ → List Entry → List Entry
 closed_up at n es = paste es at (drop (at + 1) es) (n - (at + 1))
 

@@ -29,6 +29,7 @@ pub record Unfilled (h : StripHost) : Type 0 where
   pub enough : h.count * h.capacity ≤ length (lent h)
   pub left : (c : ℕ) → c < h.count → length (listed c (in_use h)) < h.capacity → h.len < length (lent h)
 
+-- and so it is of every strip host
 abbrev pub NeverFull : Type 0
 NeverFull = (h : StripHost) → Unfilled h
 
@@ -41,10 +42,11 @@ pub record Added (n c : ℕ) (v : ℤ) (es : List Entry) : Type 0 where
   pub own : listed c (take (n + 1) (entries_put n c v es)) ≡ listed c (take n es) ++ (v ∷ [])
   pub others : (d : ℕ) → (d ≢ c) → listed d (take (n + 1) (entries_put n c v es)) ≡ listed d (take n es)
 
+-- and so it is of every put that finds an unused entry, with the first n in use
 abbrev pub AddsNewest : Type 0
 AddsNewest = (n c : ℕ) (v : ℤ) (es : List Entry) → n < length es → Added n c v es
 
--- the last of an entry and those after it
+-- the last of an entry e and those after it
 abbrev pub last_of : Entry → List Entry → Entry
 last_of e [] = e
 last_of e (x ∷ xs) = last_of x xs
@@ -60,13 +62,16 @@ pub record Taken (n c : ℕ) (es : List Entry) : Type 0 where
   pub others : (d : ℕ) → (d ≢ c) → listed d (take (n - 1) (entries_taken n c es)) ≡ listed d (take n es)
   pub size : length (entries_taken n c es) ≡ length es
 
+-- and so it is of every take from a channel that holds a value, with the first n in use
 abbrev pub TakesOldest : Type 0
 TakesOldest = (n c : ℕ) (es : List Entry) → n ≤ length es → 0 < length (listed c (take n es)) → Taken n c es
 
+-- channel c and value v, for the example
 abbrev pub entry : ℕ → ℕ → Entry
 entry c v = record { channel = c; value = pos v }
 
--- 3 channels, 6 entries: a take in the middle, and the put after it that uses the entry left behind
+-- the example of docs/hosts.md: 3 channels, 6 entries, a take in the middle, and the put after it that uses the entry
+-- left behind
 abbrev pub ByExample : Type 0
 ByExample =
     (x y : Entry) →

@@ -5,6 +5,7 @@ use Rattle.std.specs.Prelude.{ℕ, ◌/◌, min, cond, ◌==◌}
 abbrev pub strip_count : ℕ → ℕ → ℕ
 strip_count asked given = min 16 (min asked given)
 
--- how many values each can hold: an equal share of 512 entries, or of those given where they are fewer
+-- how many values each can hold: an equal share, rounded down, of 512 entries, or of those given where they are fewer;
+-- with no channel, 0
 abbrev pub strip_capacity : ℕ → ℕ → ℕ
 strip_capacity count given = cond (count == 0) 0 (min 512 given / count)

@@ -7,17 +7,19 @@ use Rattle.strip.specs.Sizes.{strip_count, strip_capacity}
 use Rattle.strip.specs.declared.entry.Entry.{Entry}
 use Rattle.strip.specs.declared.strips.StripHost.{StripHost}
 
--- every channel has the same capacity, and its list is the values of its entries among those in use
+-- n channels, each of capacity k; the list of each is the values of its entries among es, those in use
 abbrev pub strip : ℕ → ℕ → List Entry → Channels
 strip n k es = record { count = n; capacity = λ _. k; list = λ c. listed c es }
 
--- the lent entries, and those of them in use
+-- the entries that the maker lent
 abbrev pub lent : StripHost → List Entry
 lent h = h.entries.now
 
+-- those of them in use: the first ones
 abbrev pub in_use : StripHost → List Entry
 in_use h = take h.len (lent h)
 
+-- what a strip host means, by its entries in use
 abbrev pub channels_of : StripHost → Channels
 channels_of h = strip h.count h.capacity (in_use h)
 
@@ -25,6 +27,7 @@ channels_of h = strip h.count h.capacity (in_use h)
 abbrev pub empty_strip : ℕ → ℕ → Channels
 empty_strip asked given = strip (strip_count asked given) (strip_capacity (strip_count asked given) given) []
 
+-- so every strip host has at most 16 channels, each of a capacity from 1 to 65,535
 pub strip_lawful : (h : StripHost) → Lawful (channels_of h)
 strip_lawful h = record { few = h.few; roomy = λ c lt. h.roomy (omega arith); bounded = λ c lt. omega arith }
 

@@ -5,7 +5,7 @@ use Rattle.refusal.specs.declared.Refusal.TheVariants as why
 use Rattle.script.specs.declared.accepted.Script.{Script}
 use Rattle.format.specs.Encoding.{encode}
 
--- old, with bytes from place p on
+-- old, with these bytes over its own from byte p on
 abbrev pub written : ℕ → List ℕ → List ℕ → List ℕ
 written p bytes old = take p old ++ (bytes ++ drop (p + length bytes) old)
 
