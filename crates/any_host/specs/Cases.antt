@@ -6,10 +6,12 @@ use Rattle.page.specs.Slots as slot
 use Rattle.any_host.specs.declared.hosts.AnyHost.{AnyHost}
 use Rattle.any_host.specs.declared.hosts.AnyHost.TheVariants.{Slot, Own}
 
+-- the channels of the host inside
 abbrev pub any_channels : {H : Type 0} → (H → Channels) → AnyHost H → Channels
 any_channels own (Slot h) = slot.channels_of h
 any_channels own (Own h) = own h
 
+-- which are lawful, where those of a maker's own host are
 pub any_lawful : {H : Type 0} (own : H → Channels) → ((h : H) → Lawful (own h)) → (a : AnyHost H) → Lawful (any_channels own a)
 any_lawful own laws (Slot h) = slot.slots_lawful h
 any_lawful own laws (Own h) = laws h

@@ -26,6 +26,7 @@ file_f =
     ∷ 69 ∷ 11 ∷ 2 ∷ 3
     ∷ []
 
+-- a channel of that direction and level
 abbrev pub channel : Direction → ℕ → Channel
 channel d l = record { direction = d; level = l }
 
@@ -38,10 +39,11 @@ lesson = record {
   instructions = Input 1 1 ∷ Output 1 2 ∷ Input 2 0 ∷ Output 2 3 ∷ [];
 }
 
--- a value is fed to channel 1 and 5 to channel 0, and there are nine turns
+-- nine turns
 abbrev pub nine_turns : List Call
 nine_turns = turn ∷ turn ∷ turn ∷ turn ∷ turn ∷ turn ∷ turn ∷ turn ∷ turn ∷ []
 
+-- v is fed to channel 1 and 5 to channel 0, and there are nine turns
 abbrev pub calls_with : ℤ → List Call
 calls_with v = feed 1 v ∷ feed 0 (pos 5) ∷ nine_turns
 

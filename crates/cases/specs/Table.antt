@@ -98,10 +98,11 @@ pub record Files : Type 0 where
   -- F with its last byte 01: 5 at 26; channel 1 is no out channel
   pub out_of_channel_one : Refuses (take 26 file_f ++ 1 ∷ []) 5 26 (part.Instruction 3)
 
--- Files of one instruction: the bytes are the record that follows 01 00 01 00, so its map is byte 4.
+-- A file of one level, no channel and one instruction: the bytes are its record, so its map is byte 4.
 abbrev pub alone : List ℕ → List ℕ
 alone bs = 1 ∷ 0 ∷ 1 ∷ 0 ∷ bs
 
+-- Files of one instruction and their answers.
 pub record Instructions : Type 0 where
   -- 03 0D 00: 4 at 6; a zero field before a bad kind
   pub zero_before_kind : Refuses (alone (3 ∷ 13 ∷ 0 ∷ [])) 4 6 (part.Instruction 0)

@@ -10,10 +10,11 @@ bit w i = w / 2 ^ i % 2 == 1
 abbrev pub Covered : ℕ → ℕ → Type 0
 Covered a b = (i : ℕ) → bit a i ≡ true → bit b i ≡ true
 
--- the same, as the machine tests it
+-- the same, as the machine tests it: what a and b have in common is all of a
 abbrev pub within : ℕ → ℕ → Bool
 within a b = bit_and a b == a
 
+-- 2^k levels: a flows to b where both are levels and b has all marks of a; each level is picked at its own place only
 abbrev pub compartments : ℕ → Order
 compartments k = record {
   size = 2 ^ k;
@@ -21,7 +22,7 @@ compartments k = record {
   picks = own_turn (2 ^ k);
 }
 
--- what this means: bit by bit, and each level at its own place only
+-- what this means: flow bit by bit, and each level at its own place only
 pub record OwnTurns (n : ℕ) (r : Order) : Type 0 where
   pub flows_covered : (a b : ℕ) → r.flows a b ≡ true → (a < n) × (b < n) × Covered a b
   pub covered_flows : (a b : ℕ) → a < n → b < n → Covered a b → r.flows a b ≡ true

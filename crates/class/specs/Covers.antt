@@ -9,6 +9,7 @@ use Rattle.regime.proofs.Turns.{own_turn_lawful}
 use Rattle.class.specs.Compartments.{compartments, OwnTurns}
 use Rattle.class.specs.Marks.{and_trans, within_decides}
 
+-- flow from a set of marks to those that have all of them is a partial order of the sets of k marks
 compartments_partial : (k : ℕ) → Partial (2 ^ k) (compartments k).flows
 compartments_partial k = record {
   inside = λ a b e. grind (arith, nat_tests);
@@ -17,9 +18,11 @@ compartments_partial k = record {
   onward = λ a b c e f. let s = and_trans a b c in grind (arith, nat_tests, s);
 }
 
+-- compartments of at most 4 marks keep the laws of regimes
 pub compartments_lawful : (k : ℕ) → k ≤ 4 → Lawful (compartments k)
 compartments_lawful k h = own_turn_lawful (2 ^ k) (compartments k).flows (pow_pos k) (pow_mono h) (compartments_partial k)
 
+-- and mean what is said of them, bit by bit
 pub own_turns : (k : ℕ) → OwnTurns (2 ^ k) (compartments k)
 own_turns k = record {
   flows_covered = λ a b e. let d = (within_decides a b).0 in (grind (arith, nat_tests), grind (arith, nat_tests), d (grind (arith, nat_tests)));

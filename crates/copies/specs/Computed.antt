@@ -5,7 +5,7 @@ use Rattle.script.specs.declared.parts.Instruction.TheVariants.{Skip, Set, Compu
 use Rattle.meaning.specs.Arithmetic.{is_zero, result_of}
 use Rattle.meaning.specs.Copies.{Copy, assign, go_on, go_to}
 
--- the copy after it, in a script with that many instructions; an in or an out leaves it as it was
+-- the copy after it, in a script whose end is that place; an in or an out leaves it as it was
 abbrev pub computed : Copy → ℕ → Instruction → Copy
 computed c end Skip = go_on c
 computed c end (Set t v) = assign c t v
@@ -15,11 +15,11 @@ computed c end (Input t k) = c
 computed c end (Output a k) = c
 computed c end Stop = go_to c end
 
--- there is a place after the copy's own
+-- there is a place after the copy's own, of those that the code can number, 0 to 65,535
 abbrev pub goes_on : Copy → Bool
 goes_on c = nat_lt c.next 65535
 
--- the register that it sets, if it sets one, is one of a copy's
+-- the register that it sets is one of a copy's; true where it sets none, and of an in, which `reads` is for
 abbrev pub targets : Instruction → Bool
 targets Skip = true
 targets (Set t v) = nat_lt t 16
@@ -29,6 +29,6 @@ targets (Input t k) = true
 targets (Output a k) = true
 targets Stop = true
 
--- and there is a place after the copy's own
+-- the instruction can be done: it has its register, and there is a place after the copy's own
 abbrev pub computes : Copy → Instruction → Bool
 computes c i = targets i && goes_on c

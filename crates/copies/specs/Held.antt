@@ -9,29 +9,32 @@ use Rattle.copies.specs.declared.table.LevelCopy.{LevelCopy}
 use Rattle.copies.specs.declared.tapes.Tape.{Tape}
 use Rattle.copies.specs.declared.tapes.Tapes.{Tapes}
 
--- a copy, from its tables
+-- a copy, from its tables; past them registers and positions are 0
 abbrev pub copy_of : Replica → Copy
 copy_of r = record { next = r.next; registers = λ i. slice_index_or r.registers i (pos 0); positions = λ k. slice_index r.positions k }
 
--- there is a register i, and a place after the copy's own
+-- a value can be assigned: there is a register i, and a place after the copy's own
 abbrev pub assigns : Copy → ℕ → Bool
 assigns c i = nat_lt i 16 && goes_on c
 
--- and there is a channel k, and a position after the copy's own
+-- and it can be read from a tape: there is a channel k, and a position after the copy's own, of the 256 that the code
+-- can number
 abbrev pub reads : Copy → ℕ → ℕ → Bool
 reads c i k = assigns c i && (nat_lt k 16 && nat_lt (c.positions k) 255)
 
--- the copy of a level, and its own steps
+-- the copy that a level has
 abbrev pub copy_in : LevelCopy → Copy
 copy_in c = copy_of c.copy
 
+-- and how many own steps it has
 abbrev pub steps_in : LevelCopy → ℕ
 steps_in c = c.steps
 
--- the same at each level
+-- the copy at level l; past the table one that begins
 abbrev pub copies_of : Copies → ℕ → Copy
 copies_of t l = slice_index_or (map copy_in t.copies) l first
 
+-- the own steps at level l; past the table 0
 abbrev pub steps_of : Copies → ℕ → ℕ
 steps_of t l = slice_index_or (map steps_in t.copies) l 0
 
@@ -40,20 +43,23 @@ pub record Moved (c d : LevelCopy) (x : Copy) : Type 0 where
   pub copy : copy_in d ≡ x
   pub steps : d.steps ≡ suc c.steps
 
--- one step more of it can be counted
+-- one step more of it can be counted, in the 32 bits that the code has for that
 abbrev pub can_step : LevelCopy → Bool
 can_step c = nat_lt c.steps 4294967295
 
--- and it may go on, set a register, read on in a tape, do an instruction that neither takes a value in nor gives one out
+-- and it can go on
 abbrev pub can_go_on : LevelCopy → Bool
 can_go_on c = can_step c && goes_on (copy_in c)
 
+-- and it can set register i
 abbrev pub can_assign : LevelCopy → ℕ → Bool
 can_assign c i = can_step c && assigns (copy_in c) i
 
+-- and it can read on in the tape of channel k, to register i
 abbrev pub can_read : LevelCopy → ℕ → ℕ → Bool
 can_read c i k = can_step c && reads (copy_in c) i k
 
+-- and it can do an instruction that neither takes a value in nor gives one out
 abbrev pub can_compute : LevelCopy → Instruction → Bool
 can_compute c i = can_step c && computes (copy_in c) i
 
@@ -66,22 +72,26 @@ pub record Stepped (t u : Copies) (l : ℕ) (c : Copy) : Type 0 where
 abbrev pub may_step : Copies → ℕ → Bool
 may_step t l = nat_lt l 16 && nat_lt (steps_of t l) 4294967295
 
--- and it may do the same
+-- and the copy at level l can go on
 abbrev pub may_go_on : Copies → ℕ → Bool
 may_go_on t l = may_step t l && goes_on (copies_of t l)
 
+-- and it can set register i
 abbrev pub may_assign : Copies → ℕ → ℕ → Bool
 may_assign t l i = may_step t l && assigns (copies_of t l) i
 
+-- and it can read on in the tape of channel k, to register i
 abbrev pub may_read : Copies → ℕ → ℕ → ℕ → Bool
 may_read t l i k = may_step t l && reads (copies_of t l) i k
 
+-- and it can do an instruction that neither takes a value in nor gives one out
 abbrev pub may_compute : Copies → ℕ → Instruction → Bool
 may_compute t l i = may_step t l && computes (copies_of t l) i
 
--- the values of a tape, and of the tape of each channel
+-- the values of a tape: those before its length
 abbrev pub tape_of : Tape → List ℤ
 tape_of t = take t.len t.values
 
+-- the values of the tape of channel k; none past the table
 abbrev pub tapes_of : Tapes → ℕ → List ℤ
 tapes_of t k = slice_index_or (map tape_of t.tapes) k []

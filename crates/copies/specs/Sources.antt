@@ -4,7 +4,7 @@ use Rattle.meaning.specs.Visits.{Got, default, again, fresh, waits}
 use Rattle.copies.specs.declared.rules.Source.{Source}
 use Rattle.copies.specs.declared.rules.Source.TheVariants.{Default, Tape, Host, Owner}
 
--- from a source, where the host has that oldest value on the channel
+-- what an in gives by the source of its value, where that is the oldest value that the host has on the channel
 abbrev pub given : Source → Option ℤ → Got
 given Default oldest = default
 given (Tape v) oldest = again v

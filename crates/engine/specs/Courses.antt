@@ -11,7 +11,7 @@ pub record MayStep (c : Course) (l : ℕ) : Type 0 where
   pub inside : l < 16
   pub counted : steps_of c.copies l < c.turns
 
--- and set register t: there is such a register, and the copy has not ended
+-- and set register t: there is such a register, and the next instruction is below 256, as where a copy has not ended
 pub record MayAssign (c : Course) (l t : ℕ) : Type 0 where
   pub step : MayStep c l
   pub register : t < 16

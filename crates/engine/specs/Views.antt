@@ -16,11 +16,12 @@ use Rattle.engine.specs.declared.visit.Visit.{Visit}
 abbrev pub opening : Script → Order → Channels → Opening
 opening s r h = record { script = program s; order = r; host = h }
 
--- by what the regime answers and what the host's channels are
+-- what never changes in a visit, by what the regime answers and what the host's channels are
 abbrev pub frame_of : {R H : Type 0} → (R → Order) → (H → Channels) → Visit R H → Frame
 frame_of order channels v =
     record { script = program v.script; order = order v.regime; count = (channels v.host).count; capacity = (channels v.host).capacity }
 
+-- and what its calls change
 abbrev pub state_of : {R H : Type 0} → (H → Channels) → Visit R H → State
 state_of channels v =
     record {

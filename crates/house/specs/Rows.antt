@@ -3,7 +3,7 @@ use Rattle.std.specs.Prelude.{◌≡◌, ℕ, ◌<◌, ◌≤◌, Bool, true, Li
 use Rattle.regime.specs.Order.{Order, Partial, own_turn}
 use Rattle.class.specs.Compartments.{bit}
 
--- bit a of row b
+-- whether a flows to b by the rows: bit a of row b; no where there is no such row
 abbrev pub told : List ℕ → ℕ → ℕ → Bool
 told rows a b = bit (slice_index rows b) a
 
@@ -15,27 +15,34 @@ Accepted n rows = (1 ≤ n) × (n ≤ 16) × Partial n (told rows)
 abbrev pub mapped : ℕ → List ℕ → Order
 mapped n rows = record { size = n; flows = told rows; picks = own_turn n }
 
--- what is judged one after another, over the levels below n: no one at or beyond n, and the three laws of order
+-- what is judged one after another: first, of row b, that it has a one only at a level, and only if b is one
 abbrev pub RowClear : ℕ → List ℕ → ℕ → Type 0
 RowClear n rows b = (a : ℕ) → told rows a b ≡ true → (a < n) × (b < n)
 
+-- of all rows
 abbrev pub Clear : ℕ → List ℕ → Type 0
 Clear n rows = (a b : ℕ) → told rows a b ≡ true → (a < n) × (b < n)
 
+-- then, that each level flows to itself
 abbrev pub Itself : ℕ → List ℕ → Type 0
 Itself n rows = (a : ℕ) → a < n → told rows a a ≡ true
 
+-- then, of one level, that no other flows both to it and from it
 unfoldable pub OneWayFrom : ℕ → List ℕ → ℕ → Type 0
 OneWayFrom n rows a = (b : ℕ) → b < n → told rows a b ≡ true → told rows b a ≡ true → a ≡ b
 
+-- of all levels
 abbrev pub OneWay : ℕ → List ℕ → Type 0
 OneWay n rows = (a : ℕ) → a < n → OneWayFrom n rows a
 
+-- then, of two levels, that where a flows to b it flows to whatever level b flows to
 abbrev pub OnwardThrough : ℕ → List ℕ → ℕ → ℕ → Type 0
 OnwardThrough n rows a b = (c : ℕ) → c < n → told rows a b ≡ true → told rows b c ≡ true → told rows a c ≡ true
 
+-- of one level with all others
 unfoldable pub OnwardFrom : ℕ → List ℕ → ℕ → Type 0
 OnwardFrom n rows a = (b : ℕ) → b < n → OnwardThrough n rows a b
 
+-- of all levels
 abbrev pub Onward : ℕ → List ℕ → Type 0
 Onward n rows = (a : ℕ) → a < n → OnwardFrom n rows a

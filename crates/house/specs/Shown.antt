@@ -14,14 +14,15 @@ use Rattle.house.specs.Rows.{told, mapped, Accepted, RowClear, Clear, Itself, On
 ordered_prop : (n : ℕ) (flows : ℕ → ℕ → Bool) → IsProp (Partial n flows)
 ordered_prop n flows = partial_prop (hlevel props) (hlevel props) (hlevel props) (hlevel props)
 
--- what an order map's ghost field holds
+-- what an order map's ghost field holds is so: since it can be shown in one way only, it may be used
 pub accepted : (n : ℕ) (rows : List ℕ) → ∥ Accepted n rows ∥₁ → Accepted n rows
 accepted n rows h = ∥∥₁_elim h (hlevel (props, ordered_prop n (told rows))) (λ x. x)
 
+-- number and rows that make an order map keep the laws of regimes
 pub mapped_lawful : (n : ℕ) (rows : List ℕ) → Accepted n rows → Lawful (mapped n rows)
 mapped_lawful n rows h = own_turn_lawful n (told rows) h.0 h.1 h.2
 
--- the four judgements together are the laws
+-- the four judgements together: flow by the rows is a partial order of the levels
 pub partial_from : (n : ℕ) (rows : List ℕ) → Clear n rows → Itself n rows → OneWay n rows → Onward n rows → Partial n (told rows)
 unfolding OneWayFrom OnwardFrom
 partial_from n rows clear itself one on = record {
@@ -31,7 +32,7 @@ partial_from n rows clear itself one on = record {
   onward = λ a b c e f. let w = clear a b e in on a w.0 b w.1 c (clear b c f).1 e f;
 }
 
--- past the 16 rows nothing is told
+-- where each of the 16 rows is judged, all are: past them nothing is told
 pub clear_from : (n : ℕ) (rows : List ℕ) → length rows ≡ 16 → ((b : ℕ) → b < 16 → RowClear n rows b) → Clear n rows
 clear_from n rows long h a b t =
     ⊎_elim (λ (k : b < 16). h b k a t)

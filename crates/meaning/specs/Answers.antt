@@ -14,6 +14,7 @@ pub data Call : Type 0 where
   turn : Call
   ask : ℕ → Call
 
+-- a refusal; done; the value collected; nobody, or a level with its act; the standing of a level
 pub data Answer : Type 0 where
   refused : Refusal → Answer
   fed : Answer
@@ -25,7 +26,7 @@ pub data Answer : Type 0 where
 abbrev pub moved_at : ℕ → Act → Option Moved
 moved_at l act = Some (record { level = l; act = act })
 
--- an answer in numbers: what kind of answer it is, and then its values
+-- an answer in numbers, the first for its kind, as the table of docs/visits.md has them
 abbrev pub in_numbers : Answer → List ℤ
 in_numbers (turned None) = pos 0 ∷ []
 in_numbers (turned (Some m)) = pos 1 ∷ pos m.level ∷ pos (act_number m.act) ∷ act_values m.act
@@ -34,19 +35,23 @@ in_numbers fed = pos 3 ∷ []
 in_numbers (collected v) = pos 4 ∷ v ∷ []
 in_numbers (told s) = pos 5 ∷ pos (status_number s.status) ∷ pos (channel_lacked s.status) ∷ pos s.steps ∷ []
 
--- what the code answers to a call, as an answer of the log
+-- what the code answers to a call, as an answer of the log: f says what an accepted one is there
 abbrev pub answer_of : {A : Type 0} → (A → Answer) → Result A Refusal → Answer
 answer_of f (Ok a) = f a
 answer_of f (Err e) = refused e
 
+-- of a feed
 abbrev pub fed_by : Result (Unit {0}) Refusal → Answer
 fed_by = answer_of (λ _. fed)
 
+-- of a collect
 abbrev pub collected_by : Result ℤ Refusal → Answer
 collected_by = answer_of collected
 
+-- of a turn
 abbrev pub turned_by : Result (Option Moved) Refusal → Answer
 turned_by = answer_of turned
 
+-- of a question about a level
 abbrev pub told_by : Result Standing Refusal → Answer
 told_by = answer_of told

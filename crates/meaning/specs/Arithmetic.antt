@@ -12,17 +12,19 @@ same (pos a) (negsuc b) = false
 same (negsuc a) (pos b) = false
 same (negsuc a) (negsuc b) = a == b
 
+-- is a value 0
 abbrev pub is_zero : ℤ → Bool
 is_zero a = same a (pos 0)
 
--- -2147483648, and -1
+-- the least value, -2147483648
 abbrev pub least : ℤ
 least = negsuc 2147483647
 
+-- the value -1
 abbrev pub minus_one : ℤ
 minus_one = negsuc 0
 
--- the only two values whose quotient has more than 32 bits
+-- the least value by -1: the only two values whose quotient has more than 32 bits
 abbrev pub too_large : ℤ → ℤ → Bool
 too_large a b = same a least && same b minus_one
 
@@ -39,7 +41,7 @@ abbrev pub flag : Bool → ℤ
 flag true = pos 1
 flag false = pos 0
 
--- sums, differences and products wrap at 32 bits
+-- what each operation gives; sums, differences and products wrap at 32 bits
 abbrev pub result_of : Operation → ℤ → ℤ → ℤ
 result_of Add a b = int_wrap w32 (a +ℤ b)
 result_of Subtract a b = int_wrap w32 (a -ℤ b)
@@ -49,7 +51,7 @@ result_of Remainder a b = remainder_of a b
 result_of Less a b = flag (int_lt a b)
 result_of Same a b = flag (same a b)
 
--- r is 0, or has the sign of a
+-- r is 0, or has the sign of a (where a is 0, the sign is plus)
 abbrev pub SignOf : ℤ → ℤ → Type 0
 SignOf r (pos a) = int_lt r (pos 0) ≡ false
 SignOf r (negsuc a) = int_lt (pos 0) r ≡ false
@@ -61,6 +63,7 @@ pub record Divides (a b q r : ℤ) : Type 0 where
   pub smaller : unsigned_abs r < unsigned_abs b
   pub sign : SignOf r a
 
+-- quotient and remainder are what docs/scripts.md says of them, for every dividend and divisor
 pub record Division : Type 0 where
   pub regular : (a b : ℤ) → is_zero b ≡ false → too_large a b ≡ false → Divides a b (quotient_of a b) (remainder_of a b)
   pub by_zero : (a : ℤ) → (quotient_of a (pos 0) ≡ pos 0) × (remainder_of a (pos 0) ≡ a)

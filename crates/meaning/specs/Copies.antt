@@ -5,7 +5,7 @@ use Rattle.script.specs.declared.parts.Instruction.TheVariants.{Skip, Set, Compu
 use Rattle.meaning.specs.Arithmetic.{is_zero, result_of}
 use Rattle.meaning.specs.Programs.{Program, instruction_at}
 
--- the place of the next instruction, the registers, and a position in the tape of each channel
+-- what a copy holds: the place of its next instruction, its registers, and its position in the tape of each channel
 pub record Copy : Type 0 where
   pub next : ℕ
   pub registers : ℕ → ℤ
@@ -19,11 +19,11 @@ first = record { next = 0; registers = λ _. pos 0; positions = λ _. 0 }
 abbrev pub with_at : {A : Type 0} → (ℕ → A) → ℕ → A → ℕ → A
 with_at f k v j = cond (j == k) v (f j)
 
--- the copy goes to an instruction
+-- the copy goes to instruction i, and all else is as before
 abbrev pub go_to : Copy → ℕ → Copy
 go_to c i = record { next = i; registers = c.registers; positions = c.positions }
 
--- and to the one after its own
+-- and to the instruction after its own
 abbrev pub go_on : Copy → Copy
 go_on c = go_to c (suc c.next)
 
@@ -35,7 +35,7 @@ assign c t v = record { next = suc c.next; registers = with_at c.registers t v; 
 abbrev pub further : Copy → ℕ → Copy
 further c k = record { next = c.next; registers = c.registers; positions = with_at c.positions k (suc (c.positions k)) }
 
--- the value at a place of a list, if the list is as long
+-- the value with index i of a list, or none where the list is not so long
 abbrev pub nth : List ℤ → ℕ → Option ℤ
 nth [] i = None
 nth (v ∷ vs) zero = Some v
@@ -46,6 +46,7 @@ pub record Plain : Type 0 where
   pub copy : Copy
   pub written : ℕ → List ℤ
 
+-- the run with another copy; what it wrote stays
 abbrev pub with_copy : Plain → Copy → Plain
 with_copy p c = record { copy = c; written = p.written }
 
@@ -55,24 +56,26 @@ pub data InputValue : Type 0 where
   value : ℤ → InputValue
   missing : InputValue
 
--- is the channel given a list at all; is the position below 64; what the list has there
+-- what an in gives, by: is the channel given a list at all; is the position below 64; what the list has there
 abbrev pub plain_input : Bool → Bool → Option ℤ → InputValue
 plain_input false early next = default
 plain_input true false next = default
 plain_input true true (Some v) = value v
 plain_input true true None = missing
 
+-- an in from channel k to register t, by what it gives: where that is nothing yet, the run stands still
 abbrev pub plain_read : Plain → ℕ → ℕ → InputValue → Plain
 plain_read p t k default = with_copy p (assign p.copy t (pos 0))
 plain_read p t k (value v) = with_copy p (assign (further p.copy k) t v)
 plain_read p t k missing = p
 
--- the value is added to those written on channel k
+-- an out of v to channel k: the value is added to those written on the channel
 abbrev pub plain_write : Plain → ℕ → ℤ → Plain
 plain_write p k v = record { copy = go_on p.copy; written = with_at p.written k (p.written k ++ (v ∷ [])) }
 
--- the script, the channels that are given a list, and the lists
+-- of the script, the channels that are given a list, and the lists
 module _ (sc : Program) (given : ℕ → Bool) (list : ℕ → List ℤ) where
+  -- what one instruction does to the run
   abbrev pub plain_do : Plain → Instruction → Plain
   plain_do p Skip = with_copy p (go_on p.copy)
   plain_do p (Set t v) = with_copy p (assign p.copy t v)
@@ -82,11 +85,11 @@ module _ (sc : Program) (given : ℕ → Bool) (list : ℕ → List ℤ) where
   plain_do p (Output a k) = plain_write p k (p.copy.registers a)
   plain_do p Stop = with_copy p (go_to p.copy sc.instruction_count)
 
-  -- one step; a run that has ended stays
+  -- one step: the next instruction; a run that has ended stays
   abbrev pub plain_step : Plain → Plain
   plain_step p = cond (nat_lt p.copy.next sc.instruction_count) (plain_do p (instruction_at sc p.copy.next)) p
 
-  -- after n steps
+  -- the run after n steps from the beginning
   abbrev pub plain_run : ℕ → Plain
   plain_run zero = record { copy = first; written = λ _. [] }
   plain_run (suc n) = plain_step (plain_run n)

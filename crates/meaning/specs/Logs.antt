@@ -11,19 +11,21 @@ use Rattle.meaning.specs.declared.answers.Act.TheVariants.{Inner, Took, Reused, 
 abbrev pub Log : Type 0
 Log = List (Call × Answer)
 
--- the state that calls lead to from a state, and the log that they leave
+-- the state that calls lead to from a state
 abbrev pub after : Frame → State → List Call → State
 after f s [] = s
 after f s (x ∷ xs) = after f (respond f s x).0 xs
 
+-- the log that calls leave from a state on
 abbrev pub log : Frame → State → List Call → Log
 log f s [] = []
 log f s (x ∷ xs) = (x, (respond f s x).1) ∷ log f (respond f s x).0 xs
 
--- the same from an opening on
+-- the state that calls lead to from an opening
 abbrev pub reached : Opening → List Call → State
 reached o calls = after (framed o) (opened o) calls
 
+-- the log that calls leave from an opening on
 abbrev pub logged : Opening → List Call → Log
 logged o calls = log (framed o) (opened o) calls
 
@@ -44,11 +46,11 @@ by_move g d fed = d
 by_move g d (collected v) = d
 by_move g d (told a) = d
 
--- the value where k is the channel j, and nothing elsewhere
+-- the value v where the channel j is k, and nothing elsewhere
 abbrev pub on : ℕ → ℕ → ℤ → List ℤ
 on j k v = cond (k == j) (v ∷ []) []
 
--- what an act puts to channel k, and what it takes from it
+-- what an act puts to channel k of the host: the value of a wrote act on it
 abbrev pub puts : ℕ → Act → List ℤ
 puts k Inner = []
 puts k (Took j v) = []
@@ -57,6 +59,7 @@ puts k (Defaulted j v) = []
 puts k (Wrote j v) = on j k v
 puts k (Withheld j v) = []
 
+-- what an act takes from channel k of the host: the value of a took act on it
 abbrev pub takes : ℕ → Act → List ℤ
 takes k Inner = []
 takes k (Took j v) = on j k v
@@ -65,7 +68,7 @@ takes k (Defaulted j v) = []
 takes k (Wrote j v) = []
 takes k (Withheld j v) = []
 
--- the value that a collect answers
+-- what a collect from channel j that answers so takes from channel k: the value collected, where j is k
 abbrev pub collects : ℕ → ℕ → Answer → List ℤ
 collects j k (collected v) = on j k v
 collects j k (refused e) = []
@@ -87,27 +90,32 @@ taken_by k (collect j) a = collects j k a
 taken_by k turn a = by_move (λ l act. takes k act) [] a
 taken_by k (ask l) a = []
 
+-- what channel k accepts in a log, in order
 abbrev pub accepted : ℕ → Log → List ℤ
 accepted k [] = []
 accepted k (e ∷ es) = accepts k e.0 e.1 ++ accepted k es
 
+-- what is taken from channel k in a log, in order
 abbrev pub taken : ℕ → Log → List ℤ
 taken k [] = []
 taken k (e ∷ es) = taken_by k e.0 e.1 ++ taken k es
 
--- does the answer say that the copy at level l moved; that any moved
+-- does the answer say that the copy at level l moved
 abbrev pub moves : ℕ → Answer → Bool
 moves l = by_move (λ a act. nat_eq l a) false
 
+-- does the answer say that some copy moved
 abbrev pub is_move : Answer → Bool
 is_move = by_move (λ a act. true) false
 
+-- is the call a turn
 abbrev pub is_turn : Call → Bool
 is_turn turn = true
 is_turn (feed k v) = false
 is_turn (collect k) = false
 is_turn (ask l) = false
 
+-- one more than n where it is so, else n
 abbrev pub count_if : Bool → ℕ → ℕ
 count_if true n = suc n
 count_if false n = n
@@ -127,12 +135,12 @@ abbrev pub some_move : Log → Bool
 some_move [] = false
 some_move (e ∷ es) = is_move e.1 || some_move es
 
--- what the copy at level l wrote on channel k
+-- what the copy at level l wrote on channel k, in order
 abbrev pub written_by : ℕ → ℕ → Log → List ℤ
 written_by l k [] = []
 written_by l k (e ∷ es) = by_move (λ a act. cond (l == a) (puts k act) []) [] e.1 ++ written_by l k es
 
--- what copies took from channel k
+-- what copies took from channel k, in order
 abbrev pub taken_by_copies : ℕ → Log → List ℤ
 taken_by_copies k [] = []
 taken_by_copies k (e ∷ es) = by_move (λ a act. takes k act) [] e.1 ++ taken_by_copies k es
@@ -145,7 +153,7 @@ struck sc r l (collect k) = nat_lt k sc.channel_count && not (r.flows (level_at 
 struck sc r l turn = false
 struck sc r l (ask a) = nat_lt a sc.levels && not (r.flows a l)
 
--- the calls that are not struck
+-- the calls that are not struck, in order
 abbrev pub kept : Program → Order → ℕ → List Call → List Call
 kept sc r l [] = []
 kept sc r l (x ∷ xs) = cond (struck sc r l x) (kept sc r l xs) (x ∷ kept sc r l xs)

@@ -9,6 +9,7 @@ use Rattle.script.specs.declared.parts.Direction.TheVariants.{Out}
 use Rattle.script.specs.declared.parts.Instruction.{Instruction}
 use Rattle.script.specs.declared.parts.Instruction.TheVariants.{Skip}
 
+-- the counts n, c and m of a script, and its two tables whole
 pub record Program : Type 0 where
   pub levels : ℕ
   pub channel_count : ℕ
@@ -16,6 +17,7 @@ pub record Program : Type 0 where
   pub instruction_count : ℕ
   pub instructions : List Instruction
 
+-- the counts and tables of an accepted script
 abbrev pub program : Script → Program
 program s = record {
   levels = s.levels;
@@ -25,14 +27,15 @@ program s = record {
   instructions = s.instructions;
 }
 
--- the level of channel k, and whether values go out by it
+-- the level of channel k; 0 past the table
 abbrev pub level_at : Program → ℕ → ℕ
 level_at p k = (get_or p.channels k blank).level
 
+-- do values go out by channel k; past the table they do not
 abbrev pub outward_at : Program → ℕ → Bool
 outward_at p k = same Out (get_or p.channels k blank).direction
 
--- the instruction at place i
+-- the instruction at place i; a skip past the table
 abbrev pub instruction_at : Program → ℕ → Instruction
 instruction_at p i = slice_index_or p.instructions i Skip
 

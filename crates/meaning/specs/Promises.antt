@@ -80,6 +80,7 @@ pub record Agrees (o : Opening) (calls : List Call) (l : ℕ) : Type 0 where
   pub positions : (k : ℕ) → ((reached o calls).copy l).positions k ≡ (plain_of o calls l).copy.positions k
   pub written : (k : ℕ) → level_at o.script k ≡ l → written_by l k (logged o calls) ≡ (plain_of o calls l).written k
 
+-- It is so after every log, of every level.
 abbrev pub Agreement : Opening → Type 0
 Agreement o = (calls : List Call) (l : ℕ) → Agrees o calls l
 
@@ -146,6 +147,7 @@ pub record Limits (f : Frame) (s : State) : Type 0 where
   pub next : (l : ℕ) → (s.copy l).next ≤ f.script.instruction_count
   pub steps : (l : ℕ) → s.steps l ≤ s.turns
 
+-- No log from this opening exceeds them.
 abbrev pub Limited : Opening → Type 0
 Limited o = (calls : List Call) → Limits (framed o) (reached o calls)
 

@@ -13,6 +13,7 @@ module _ (f : Frame) (s : State) (l : ℕ) (c : Copy) (k : ℕ) where
   abbrev pub AtEnd : Type 0
   AtEnd = Heard × (length (s.tape k) ≤ c.positions k)
 
+  -- what it gives
   pub data Gives : Got → Type 0 where
     -- the channel does not flow to the copy's level: 0
     unheard : f.order.flows (level_of f k) l ≡ false → Gives default
@@ -22,13 +23,15 @@ module _ (f : Frame) (s : State) (l : ℕ) (c : Copy) (k : ℕ) where
     from_the_tape : Heard → c.positions k < length (s.tape k) → Gives (again (slice_index_or (s.tape k) (c.positions k) (pos 0)))
     -- else, where the channel is of the copy's level: the oldest value of the host, if there is one
     from_the_host : (v : ℤ) (vs : List ℤ) → AtEnd → level_of f k ≡ l → s.lists k ≡ v ∷ vs → Gives (fresh v)
+    -- and if there is none, nothing yet
     lacking : AtEnd → level_of f k ≡ l → s.lists k ≡ [] → Gives waits
-    -- else it waits for the copy at the channel's level
+    -- else nothing yet: it waits for the copy at the channel's level
     waiting : AtEnd → (level_of f k == l) ≡ false → Gives waits
 
--- every in gives what one of the rules says, and no two rules say different things
+-- every in gives what one of the rules says
 abbrev pub Inputs : Type 0
 Inputs = (f : Frame) (s : State) (l : ℕ) (c : Copy) (k : ℕ) → Gives f s l c k (gets f s l c k)
 
+-- and no two rules say different things
 abbrev pub OneRule : Type 0
 OneRule = (f : Frame) (s : State) (l : ℕ) (c : Copy) (k : ℕ) (g : Got) → Gives f s l c k g → g ≡ gets f s l c k

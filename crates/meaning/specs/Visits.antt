@@ -38,22 +38,27 @@ pub record State : Type 0 where
   pub tape : ℕ → List ℤ
   pub lists : ℕ → List ℤ
 
+-- what never changes in a visit that is opened so
 abbrev pub framed : Opening → Frame
 framed o = record { script = o.script; order = o.order; count = o.host.count; capacity = o.host.capacity }
 
+-- and the state that it begins in: no turn so far, every copy as it begins, every tape empty, the lists as handed over
 abbrev pub opened : Opening → State
 opened o = record { turns = 0; copy = λ _. first; steps = λ _. 0; tape = λ _. []; lists = o.host.list }
 
--- of channel k: its level, whether the script has it, whether values go out by it, and whether the host has space there
+-- the level of channel k
 abbrev pub level_of : Frame → ℕ → ℕ
 level_of f k = level_at f.script k
 
+-- has the script a channel k
 abbrev pub known : Frame → ℕ → Bool
 known f k = nat_lt k f.script.channel_count
 
+-- do values go out by channel k
 abbrev pub outward : Frame → ℕ → Bool
 outward f k = outward_at f.script k
 
+-- does the host hold fewer values on channel k than its capacity there
 abbrev pub has_space : Frame → State → ℕ → Bool
 has_space f s k = nat_lt (length (s.lists k)) (f.capacity k)
 
@@ -72,8 +77,8 @@ pub data Got : Type 0 where
   fresh : ℤ → Got
   waits : Got
 
--- does the channel flow to the copy's level; is its position below 64; the tape's value there; is the channel of the
--- copy's level; the oldest value that the host has on it
+-- what an in gives, by: does the channel flow to the copy's level; is its position below 64; the tape's value there; is
+-- the channel of the copy's level; the oldest value that the host has on it. Rules.antt has the law
 abbrev pub got : Bool → Bool → Option ℤ → Bool → Option ℤ → Got
 got false early next own oldest = default
 got true false next own oldest = default
@@ -82,25 +87,27 @@ got true true None true (Some v) = fresh v
 got true true None true None = waits
 got true true None false oldest = waits
 
+-- what a copy does by an in from channel k to register t, by what the in gives
 abbrev pub read_plan : Copy → ℕ → ℕ → Got → Plan
 read_plan c t k default = go (Defaulted k (pos 0)) (assign c t (pos 0))
 read_plan c t k (again v) = go (Reused k v) (assign (further c k) t v)
 read_plan c t k (fresh v) = go (Took k v) (assign (further c k) t v)
 read_plan c t k waits = lacks_value k
 
--- is the channel of the copy's level; has it space
+-- what a copy does by an out of v to channel k, by: is the channel of the copy's level; has it space
 abbrev pub write_plan : Copy → ℕ → ℤ → Bool → Bool → Plan
 write_plan c k v false space = go (Withheld k v) (go_on c)
 write_plan c k v true true = go (Wrote k v) (go_on c)
 write_plan c k v true false = lacks_space k
 
--- the copy at level l
+-- of the copy at level l
 module _ (f : Frame) (s : State) (l : ℕ) where
   -- what an in from channel k gives it
   abbrev pub gets : Copy → ℕ → Got
   gets c k =
       got (f.order.flows (level_of f k) l) (nat_lt (c.positions k) 64) (nth (s.tape k) (c.positions k)) (level_of f k == l) (nth (s.lists k) 0)
 
+  -- what it does by one instruction
   abbrev pub plan_do : Copy → Instruction → Plan
   plan_do c Skip = go Inner (go_on c)
   plan_do c (Set t v) = go Inner (assign c t v)
@@ -110,36 +117,41 @@ module _ (f : Frame) (s : State) (l : ℕ) where
   plan_do c (Output a k) = write_plan c k (c.registers a) (level_of f k == l) (has_space f s k)
   plan_do c Stop = go Inner (go_to c f.script.instruction_count)
 
+  -- what it does next, if c is what it holds
   abbrev pub plan_of : Copy → Plan
   plan_of c = cond (nat_lt c.next f.script.instruction_count) (plan_do c (instruction_at f.script c.next)) ended
 
+  -- what it does next
   abbrev pub plan : Plan
   plan = plan_of (s.copy l)
 
+-- the status of a copy, by what it does next
 abbrev pub status : Plan → Status
 status (go act c) = Ready
 status (lacks_value k) = LacksValue k
 status (lacks_space k) = LacksSpace k
 status ended = Ended
 
+-- of the four only ready is ready
 abbrev pub is_ready : Status → Bool
 is_ready Ready = true
 is_ready (LacksValue k) = false
 is_ready (LacksSpace k) = false
 is_ready Ended = false
 
--- the levels whose copies are ready
+-- the levels whose copies are ready; nothing from n on is a level
 abbrev pub ready : Frame → State → regime.Levels
 ready f s a = nat_lt a f.script.levels && is_ready (status (plan f s a))
 
--- a value more at the end of list k, and the oldest of list k taken off
+-- a value more at the end of the list of channel k
 abbrev pub put_on : ℕ → ℤ → (ℕ → List ℤ) → ℕ → List ℤ
 put_on k v lists = with_at lists k (lists k ++ (v ∷ []))
 
+-- the oldest value of the list of channel k taken off, if there is one
 abbrev pub take_off : ℕ → (ℕ → List ℤ) → ℕ → List ℤ
 take_off k lists = with_at lists k (rest (lists k))
 
--- the host's lists after an act, and the tapes
+-- the host's lists after an act: took takes from one, and wrote puts to one
 abbrev pub lists_after : Act → (ℕ → List ℤ) → ℕ → List ℤ
 lists_after Inner lists = lists
 lists_after (Took k v) lists = take_off k lists
@@ -148,6 +160,7 @@ lists_after (Defaulted k v) lists = lists
 lists_after (Wrote k v) lists = put_on k v lists
 lists_after (Withheld k v) lists = lists
 
+-- the tapes after an act: took adds its value to one, and no other act changes any
 abbrev pub tapes_after : Act → (ℕ → List ℤ) → ℕ → List ℤ
 tapes_after Inner tapes = tapes
 tapes_after (Took k v) tapes = put_on k v tapes
@@ -156,13 +169,15 @@ tapes_after (Defaulted k v) tapes = tapes
 tapes_after (Wrote k v) tapes = tapes
 tapes_after (Withheld k v) tapes = tapes
 
--- the state with other lists, with one turn more, and with one act of the copy at level a, which then is c
+-- the state with other lists
 abbrev pub with_lists : State → (ℕ → List ℤ) → State
 with_lists s lists = record { turns = s.turns; copy = s.copy; steps = s.steps; tape = s.tape; lists = lists }
 
+-- the state with one turn more
 abbrev pub counted : State → State
 counted s = record { turns = suc s.turns; copy = s.copy; steps = s.steps; tape = s.tape; lists = s.lists }
 
+-- the state after an act of the copy at level a, which then is c and has one own step more
 abbrev pub acted : State → ℕ → Act → Copy → State
 acted s a act c =
     record {
@@ -173,18 +188,18 @@ acted s a act c =
       lists = lists_after act s.lists;
     }
 
--- what a call leaves, and its answer
+-- what a call leaves: the state after it, and its answer
 abbrev pub Reply : Type 0
 Reply = State × Answer
 
--- is the channel the script's; do values go out by it; has it space
+-- a feed of v to channel k, by: is the channel the script's; do values go out by it; has it space
 abbrev pub feeding : State → ℕ → ℤ → Bool → Bool → Bool → Reply
 feeding s k v false out space = (s, refused Channel)
 feeding s k v true true space = (s, refused Direction)
 feeding s k v true false false = (s, refused Full)
 feeding s k v true false true = (with_lists s (put_on k v s.lists), fed)
 
--- is the channel the script's; do values go out by it; its oldest value
+-- a collect from channel k, by: is the channel the script's; do values go out by it; its oldest value
 abbrev pub collecting : State → ℕ → Bool → Bool → Option ℤ → Reply
 collecting s k false out oldest = (s, refused Channel)
 collecting s k true false oldest = (s, refused Direction)
@@ -198,6 +213,7 @@ moving s a (lacks_value k) = (counted s, turned None)
 moving s a (lacks_space k) = (counted s, turned None)
 moving s a ended = (counted s, turned None)
 
+-- a turn by whom the regime picks: nobody, and only the turns are one more; or the copy of a level, which moves
 abbrev pub picked : Frame → State → Option ℕ → Reply
 picked f s None = (counted s, turned None)
 picked f s (Some a) = moving s a (plan f s a)
@@ -206,29 +222,32 @@ picked f s (Some a) = moving s a (plan f s a)
 abbrev pub choice : Frame → State → Option ℕ
 choice f s = f.order.picks (s.turns % f.order.size) (ready f s)
 
--- are there turns left
+-- a turn, by: are there turns left
 abbrev pub turning : Frame → State → Bool → Reply
 turning f s true = picked f s (choice f s)
 turning f s false = (s, refused Spent)
 
--- is the level the script's
+-- a question about level a, by: is the level the script's
 abbrev pub asking : Frame → State → ℕ → Bool → Reply
 asking f s a true = (s, told (record { status = status (plan f s a); steps = s.steps a }))
 asking f s a false = (s, refused Level)
 
+-- a call of a visit whose script, regime and host fit
 abbrev pub serve : Frame → State → Call → Reply
 serve f s (feed k v) = feeding s k v (known f k) (outward f k) (has_space f s k)
 serve f s (collect k) = collecting s k (known f k) (outward f k) (nth (s.lists k) 0)
 serve f s turn = turning f s (nat_lt s.turns 1000000)
 serve f s (ask a) = asking f s a (nat_lt a f.script.levels)
 
--- have script and regime the same number of levels; has the host the script's channels
+-- have script and regime the same number of levels
 abbrev pub same_levels : Frame → Bool
 same_levels f = f.script.levels == f.order.size
 
+-- has the host as many channels as the script
 abbrev pub enough_channels : Frame → Bool
 enough_channels f = nat_le f.script.channel_count f.count
 
+-- a call of any visit, by: are the levels the same; has the host enough channels
 abbrev pub admit : Frame → State → Call → Bool → Bool → Reply
 admit f s x false enough = (s, refused Levels)
 admit f s x true false = (s, refused Channels)

@@ -17,7 +17,7 @@ abbrev pub Lowest : ℕ → Levels → Option ℕ → Type 0
 Lowest n s (Some a) = (a < n) × (s a ≡ true) × ((b : ℕ) → b < a → s b ≡ false)
 Lowest n s None = (a : ℕ) → a < n → s a ≡ false
 
--- a flows to b where a ≤ b, both levels; the lowest ready level is picked at every place
+-- a flows to b where a ≤ b, both levels; at every place below n the lowest ready level is picked
 abbrev pub ladder : ℕ → Order
 ladder n = record {
   size = n;

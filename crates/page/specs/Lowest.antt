@@ -23,7 +23,7 @@ lowest_found (suc n) s a l r h =
     let t : s n ≡ true = rw q r in simp (e, t) (ap Some q))
     (cases_lt a n)
 
--- one level more
+-- such an answer for n levels is one for n + 1 once level n is asked too
 one_more : (n : ℕ) (s : Levels) (o : Option ℕ) (b : Bool) → Lowest n s o → s n ≡ b → Lowest (suc n) s (first_some o (cond b (Some n) None))
 one_more n s (Some a) b f e = (omega (arith, f.0), f.1, f.2)
 one_more n s None true f e = (omega arith, e, f)
@@ -34,27 +34,27 @@ found : (n : ℕ) (s : Levels) → Lowest n s (lowest n s)
 found zero s = λ a l. absurd (omega arith)
 found (suc n) s = one_more n s (lowest n s) (s n) (found n s) refl
 
--- where it answers somebody
+-- a level that is answered is below n and ready, and nobody below it is
 pub lowest_some : (n : ℕ) (s : Levels) (a : ℕ) → lowest n s ≡ Some a → (a < n) × (s a ≡ true) × ((b : ℕ) → b < a → s b ≡ false)
 lowest_some n s a e = subst (Lowest n s) e (found n s)
 
--- an answer is somebody where anybody is ready
+-- such an answer is somebody where anybody is ready
 some_of : (n : ℕ) (s : Levels) (a : ℕ) → a < n → s a ≡ true → (o : Option ℕ) → Lowest n s o → (b : ℕ) × (o ≡ Some b)
 some_of n s a l r (Some b) f = (b, refl)
 some_of n s a l r None f = absurd (both_ways (s a) (f a l) r)
 
--- it answers somebody where anybody is ready
+-- somebody is answered where anybody is ready
 pub lowest_any : (n : ℕ) (s : Levels) (a : ℕ) → a < n → s a ≡ true → (b : ℕ) × (lowest n s ≡ Some b)
 lowest_any n s a l r = some_of n s a l r (lowest n s) (found n s)
 
--- it looks at levels below n only
+-- levels from n on make no difference
 pub lowest_same : (n : ℕ) (s t : Levels) → ((a : ℕ) → a < n → s a ≡ t a) → lowest n s ≡ lowest n t
 lowest_same zero s t h = refl
 lowest_same (suc n) s t h =
     let e = lowest_same n s t (λ a l. h a (omega arith)) in
     let f = h n (omega arith) in simp (e, f)
 
--- there is one such answer
+-- there is only one such answer: the one that is given
 pub lowest_is : (n : ℕ) (s : Levels) (o : Option ℕ) → Lowest n s o → o ≡ lowest n s
 lowest_is n s (Some a) h = sym (lowest_found n s a h.0 h.1 h.2)
 lowest_is n s None h = sym (lowest_none n s h)

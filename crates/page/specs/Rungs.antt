@@ -7,11 +7,12 @@ use Rattle.regime.specs.Order.{Partial, Lawful}
 use Rattle.page.specs.Ladder.{ladder, lowest, PicksLowest}
 use Rattle.page.specs.Lowest.{lowest_found, lowest_some, lowest_any, lowest_same}
 
--- an answer under a test
+-- an answer under a test is given only where the test holds
 picked : (b : Bool) (o : Option ℕ) (a : ℕ) → cond b o None ≡ Some a → (b ≡ true) × (o ≡ Some a)
 picked true o a e = (refl, e)
 picked false o a e = let z : ◌≡◌ {A = ℕ} 0 1 = cc in absurd (omega arith)
 
+-- flow up a ladder is a partial order of its levels
 ladder_partial : (n : ℕ) → Partial n (ladder n).flows
 ladder_partial n = record {
   inside = λ a b e. grind (arith, nat_tests);
@@ -20,6 +21,7 @@ ladder_partial n = record {
   onward = λ a b c e f. grind (arith, nat_tests);
 }
 
+-- a ladder of 1 to 16 levels keeps the laws of regimes
 pub ladder_lawful : (n : ℕ) → 1 ≤ n → n ≤ 16 → Lawful (ladder n)
 ladder_lawful n low high = record {
   bounded = (low, high);
@@ -37,6 +39,7 @@ ladder_lawful n low high = record {
       cond-true (nat_lt p n) (lowest n t) None w.0 ∙ lowest_found n t l h.0 ready idle;
 }
 
+-- and a level is picked exactly where it is ready and no ready level is below it
 pub picks_lowest : (n : ℕ) → PicksLowest n (ladder n)
 picks_lowest n = record {
   flows_up = λ a b. (λ e. grind (arith, nat_tests), λ h k. grind (arith, nat_tests));

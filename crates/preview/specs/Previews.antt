@@ -16,12 +16,12 @@ wrote_on k (Wrote j v) = cond (k == j) (v ∷ []) []
 wrote_on k (Waits j) = []
 wrote_on k Ended = []
 
--- those of several steps, oldest first
+-- the values that several steps wrote on channel k, oldest first
 abbrev pub told_on : ℕ → List Did → List ℤ
 told_on k [] = []
 told_on k (r ∷ rs) = wrote_on k r ++ told_on k rs
 
--- how many of them count: all but those that waited
+-- 1 for a step that counts, 0 for one that waited
 abbrev pub moved : Did → ℕ
 moved Inner = 1
 moved (Got j v) = 1
@@ -30,6 +30,7 @@ moved (Wrote j v) = 1
 moved (Waits j) = 0
 moved Ended = 1
 
+-- how many steps count: all but those that waited
 abbrev pub moves : List Did → ℕ
 moves [] = 0
 moves (r ∷ rs) = moved r + moves rs

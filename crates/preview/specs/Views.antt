@@ -17,10 +17,11 @@ abbrev pub list_in : Option Tape → List ℤ
 list_in (Some t) = tape_of t
 list_in None = []
 
--- the same in the table of all channels
+-- is channel k given a list, in the table of all channels; past the table it is not
 abbrev pub given_in : List (Option Tape) → ℕ → Bool
 given_in ls k = slice_index_or (map is_some ls) k false
 
+-- the values that channel k is given, in that table
 abbrev pub lists_in : List (Option Tape) → ℕ → List ℤ
 lists_in ls k = slice_index_or (map list_in ls) k []
 
@@ -40,10 +41,10 @@ plain_of r w = record { copy = copy_of r; written = w }
 abbrev pub input_in : Option Tape → Replica → ℕ → InputValue
 input_in l r k = plain_input (is_some l) (nat_lt ((copy_of r).positions k) 64) (nth (list_in l) ((copy_of r).positions k))
 
--- what a give answers: whether channel k is an in channel of the script
+-- what a give answers: CHANNEL, then DIRECTION, or that channel k is an in channel of the script
 abbrev pub give_answer : Program → ℕ → Result (Unit {0}) Refusal
 give_answer sc k = judging In sc.channels sc.channel_count k
 
--- and an add: whether it is, and whether its list has space, for 64 values at most
+-- what an add answers: the same, and then FULL where the channel's list has 64 values
 abbrev pub add_answer : Program → (ℕ → List ℤ) → ℕ → Result (Unit {0}) Refusal
 add_answer sc list k = result_and (give_answer sc k) (push_answer 64 (list k))

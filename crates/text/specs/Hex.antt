@@ -14,22 +14,23 @@ nibble_of c =
 abbrev pub digit_of : ℕ → ℕ
 digit_of n = cond (nat_lt n 10) (48 + n) (87 + n)
 
+-- the number of two hex digits, where both are digits
 abbrev pub joined : Option ℕ → Option ℕ → Option ℕ
 joined (Some high) (Some low) = Some (16 * high + low)
 joined (Some high) None = None
 joined None low = None
 
--- the byte of two hex digits
+-- the byte of two hex digits, where both are digits
 abbrev pub byte_of : ℕ → ℕ → Option ℕ
 byte_of high low = joined (nibble_of high) (nibble_of low)
 
--- what a pair of digits gives, before what the rest of the text gives
+-- what a pair of digits gives, before what the rest of the text gives; no pair of digits is the first fault
 abbrev pub before : Option ℕ → Result (List ℕ) LineError → Result (List ℕ) LineError
 before None rest = Err HexDigit
 before (Some b) (Ok bs) = Ok (b ∷ bs)
 before (Some b) (Err e) = Err e
 
--- the bytes of a hex text, or its first fault
+-- the bytes of a hex text, or its first fault: a pair that is no pair of digits, or one character alone at the end
 abbrev pub decoded : List ℕ → Result (List ℕ) LineError
 decoded [] = Ok []
 decoded (c ∷ []) = Err OddHex

@@ -6,12 +6,12 @@ use Rattle.text.specs.declared.error.LineError.{LineError}
 use Rattle.text.specs.declared.error.LineError.TheVariants.{Missing}
 use Rattle.text.specs.declared.words.Words.{Words}
 
--- the words ws, after w if that has a letter
+-- w before the words ws; an empty w is no word
 abbrev pub after : List ℕ → List (List ℕ) → List (List ℕ)
 after [] ws = ws
 after (c ∷ w) ws = (c ∷ w) ∷ ws
 
--- the words of a text that goes on from the word w
+-- the words of a text whose first word began with the letters w, already read
 abbrev pub words_from : List ℕ → List ℕ → List (List ℕ)
 words_from w [] = after w []
 words_from w (c ∷ cs) = cond (is_ascii_whitespace c) (after w (words_from [] cs)) (words_from (w ++ c ∷ []) cs)
