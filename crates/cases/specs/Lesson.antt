@@ -87,7 +87,8 @@ turns_about =
 abbrev pub low_sees : List Answer
 low_sees = fed ∷ (map turned (take 4 lesson_turns) ++ replicate 5 (turned None))
 
--- the same answers in numbers: 3 for fed, 1 for a move with its level, the act's number, channel and value, 0 for nobody
+-- the answers of the lesson in numbers: 3 for fed, 1 for a move with its level, the act's number, channel and value, 0
+-- for nobody
 abbrev pub lesson_numbers : List (List ℤ)
 lesson_numbers =
     (pos 3 ∷ [])

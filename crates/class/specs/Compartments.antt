@@ -10,7 +10,7 @@ bit w i = w / 2 ^ i % 2 == 1
 abbrev pub Covered : ℕ → ℕ → Type 0
 Covered a b = (i : ℕ) → bit a i ≡ true → bit b i ≡ true
 
--- the same, as the machine tests it: what a and b have in common is all of a
+-- every one bit of a is one in b, as the machine tests it: what a and b have in common is all of a
 abbrev pub within : ℕ → ℕ → Bool
 within a b = bit_and a b == a
 

@@ -22,7 +22,7 @@ compartments_partial k = record {
 pub compartments_lawful : (k : ℕ) → k ≤ 4 → Lawful (compartments k)
 compartments_lawful k h = own_turn_lawful (2 ^ k) (compartments k).flows (pow_pos k) (pow_mono h) (compartments_partial k)
 
--- and mean what is said of them, bit by bit
+-- compartments flow bit by bit, and each level is picked at its own place only, exactly if it is ready
 pub own_turns : (k : ℕ) → OwnTurns (2 ^ k) (compartments k)
 own_turns k = record {
   flows_covered = λ a b e. let d = (within_decides a b).0 in (grind (arith, nat_tests), grind (arith, nat_tests), d (grind (arith, nat_tests)));

@@ -9,11 +9,11 @@ use Rattle.std.proofs.lemmas.Bool.{eqb-true, eq-eqb, cases_lt}
 use Rattle.std.proofs.lemmas.Bool.Decides.{nat_tests}
 use Rattle.class.specs.Compartments.{bit, Covered, within}
 
--- the lowest bit of `bit_and a b` is one where the lowest of both are
+-- the lowest bit of `bit_and a b` is one where the lowest of both is
 and_low : (a b : ℕ) → bit_and a b % 2 ≡ min (a % 2) (b % 2)
 and_low a b = ap (λ (x : ℕ). x % 2) (and_step a b) ∙ digits_mod (bit_and (a / 2) (b / 2)) {m = 2} (omega arith)
 
--- and so it is of bit i
+-- bit i of `bit_and a b` is one where bit i of both is
 and_digit : (a b i : ℕ) → bit_and a b / 2 ^ i % 2 ≡ min (a / 2 ^ i % 2) (b / 2 ^ i % 2)
 and_digit a b i = ap (λ (x : ℕ). x % 2) (and_shr a b i) ∙ and_low (a / 2 ^ i) (b / 2 ^ i)
 

@@ -17,8 +17,8 @@ copy_of r = record { next = r.next; registers = λ i. slice_index_or r.registers
 abbrev pub assigns : Copy → ℕ → Bool
 assigns c i = nat_lt i 16 && goes_on c
 
--- and it can be read from a tape: there is a channel k, and a position after the copy's own, of the 256 that the code
--- can number
+-- a value can be read from a tape: it can be assigned to register i, there is a channel k, and a position after the
+-- copy's own, of those that the code can number, 0 to 255
 abbrev pub reads : Copy → ℕ → ℕ → Bool
 reads c i k = assigns c i && (nat_lt k 16 && nat_lt (c.positions k) 255)
 
@@ -26,7 +26,7 @@ reads c i k = assigns c i && (nat_lt k 16 && nat_lt (c.positions k) 255)
 abbrev pub copy_in : LevelCopy → Copy
 copy_in c = copy_of c.copy
 
--- and how many own steps it has
+-- the own steps that a level's copy has
 abbrev pub steps_in : LevelCopy → ℕ
 steps_in c = c.steps
 
@@ -43,23 +43,23 @@ pub record Moved (c d : LevelCopy) (x : Copy) : Type 0 where
   pub copy : copy_in d ≡ x
   pub steps : d.steps ≡ suc c.steps
 
--- one step more of it can be counted, in the 32 bits that the code has for that
+-- one step more of the copy can be counted, in the 32 bits that the code has for that
 abbrev pub can_step : LevelCopy → Bool
 can_step c = nat_lt c.steps 4294967295
 
--- and it can go on
+-- the copy can go on, and the step be counted
 abbrev pub can_go_on : LevelCopy → Bool
 can_go_on c = can_step c && goes_on (copy_in c)
 
--- and it can set register i
+-- the copy can set register i, and the step be counted
 abbrev pub can_assign : LevelCopy → ℕ → Bool
 can_assign c i = can_step c && assigns (copy_in c) i
 
--- and it can read on in the tape of channel k, to register i
+-- the copy can read on in the tape of channel k, to register i, and the step be counted
 abbrev pub can_read : LevelCopy → ℕ → ℕ → Bool
 can_read c i k = can_step c && reads (copy_in c) i k
 
--- and it can do an instruction that neither takes a value in nor gives one out
+-- the copy can do an instruction that neither takes a value in nor gives one out, and the step be counted
 abbrev pub can_compute : LevelCopy → Instruction → Bool
 can_compute c i = can_step c && computes (copy_in c) i
 
@@ -72,19 +72,20 @@ pub record Stepped (t u : Copies) (l : ℕ) (c : Copy) : Type 0 where
 abbrev pub may_step : Copies → ℕ → Bool
 may_step t l = nat_lt l 16 && nat_lt (steps_of t l) 4294967295
 
--- and the copy at level l can go on
+-- there is a copy at level l, it can go on, and the step be counted
 abbrev pub may_go_on : Copies → ℕ → Bool
 may_go_on t l = may_step t l && goes_on (copies_of t l)
 
--- and it can set register i
+-- there is a copy at level l, it can set register i, and the step be counted
 abbrev pub may_assign : Copies → ℕ → ℕ → Bool
 may_assign t l i = may_step t l && assigns (copies_of t l) i
 
--- and it can read on in the tape of channel k, to register i
+-- there is a copy at level l, it can read on in the tape of channel k, to register i, and the step be counted
 abbrev pub may_read : Copies → ℕ → ℕ → ℕ → Bool
 may_read t l i k = may_step t l && reads (copies_of t l) i k
 
--- and it can do an instruction that neither takes a value in nor gives one out
+-- there is a copy at level l, it can do an instruction that neither takes a value in nor gives one out, and the step be
+-- counted
 abbrev pub may_compute : Copies → ℕ → Instruction → Bool
 may_compute t l i = may_step t l && computes (copies_of t l) i
 

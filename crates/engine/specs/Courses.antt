@@ -11,13 +11,15 @@ pub record MayStep (c : Course) (l : ℕ) : Type 0 where
   pub inside : l < 16
   pub counted : steps_of c.copies l < c.turns
 
--- and set register t: there is such a register, and the next instruction is below 256, as where a copy has not ended
+-- the copy at level l may make a step that sets register t: there is such a register, and the next instruction is below
+-- 256, as where a copy has not ended
 pub record MayAssign (c : Course) (l t : ℕ) : Type 0 where
   pub step : MayStep c l
   pub register : t < 16
   pub running : (copies_of c.copies l).next < 256
 
--- and read on in the tape of channel k: there is such a channel, and the copy has read less than a tape can hold
+-- the copy at level l may read on in the tape of channel k: there is such a channel, and the copy has read less than a
+-- tape can hold
 pub record MayRead (c : Course) (l t k : ℕ) : Type 0 where
   pub assign : MayAssign c l t
   pub port : k < 16

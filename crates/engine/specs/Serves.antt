@@ -26,7 +26,7 @@ act_of (lacks_value k) = None
 act_of (lacks_space k) = None
 act_of ended = None
 
--- and the state that the copy at level l leaves by it: as it was where it does not go on
+-- the state that the copy at level l leaves by its plan: as it was where it does not go on
 abbrev pub done : State → ℕ → Plan → State
 done s l (go act c) = acted s l act c
 done s l (lacks_value k) = s
@@ -49,12 +49,12 @@ Memory puts takes h (Defaulted k v) j = j ≡ h
 Memory puts takes h (Wrote k v) j = puts h k v j
 Memory puts takes h (Withheld k v) j = j ≡ h
 
--- the same of a copy that did something or nothing: nothing leaves the whole host as it was
+-- what a copy that did something or nothing makes of the host's own memory: nothing leaves the whole host as it was
 abbrev pub StepMemory : {H : Type 0} → (H → ℕ → ℤ → H → Type 0) → (H → ℕ → H → Type 0) → H → Option Act → H → Type 0
 StepMemory puts takes h None j = j ≡ h
 StepMemory puts takes h (Some act) j = Memory puts takes h act j
 
--- and of a turn: nobody, or a refusal, leaves the whole host as it was
+-- what a turn makes of the host's own memory: nobody, or a refusal, leaves the whole host as it was
 abbrev pub TurnMemory : {H : Type 0} → (H → ℕ → ℤ → H → Type 0) → (H → ℕ → H → Type 0) → H → Result (Option Moved) Refusal → H → Type 0
 TurnMemory puts takes h (Ok None) j = j ≡ h
 TurnMemory puts takes h (Ok (Some m)) j = Memory puts takes h m.act j

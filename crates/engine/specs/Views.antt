@@ -21,7 +21,7 @@ abbrev pub frame_of : {R H : Type 0} → (R → Order) → (H → Channels) → 
 frame_of order channels v =
     record { script = program v.script; order = order v.regime; count = (channels v.host).count; capacity = (channels v.host).capacity }
 
--- and what its calls change
+-- what the calls of a visit change: its turns, copies, own steps and tapes, and the lists of its host
 abbrev pub state_of : {R H : Type 0} → (H → Channels) → Visit R H → State
 state_of channels v =
     record {

@@ -26,7 +26,7 @@ OneRefusal = (bs : List ℕ) (f g : Fault) → Refused bs f → Refused bs g →
 abbrev pub AcceptedOrRefused : Type 0
 AcceptedOrRefused = (bs : List ℕ) → Bytes bs → ((s : Model) × Accepted s × (encode_model s ≡ bs)) ⊎ ((f : Fault) × Refused bs f)
 
--- and never both
+-- no accepted script's file is refused
 abbrev pub AcceptedNotRefused : Type 0
 AcceptedNotRefused = (s : Model) (f : Fault) → Accepted s → Refused (encode_model s) f → ⊥
 
@@ -49,7 +49,7 @@ pub record ByteWithin (bs : List ℕ) (f : Fault) : Type 0 where
   pub at_end : f.refusal ≡ why.Short → f.byte ≡ length bs
   pub before : (f.refusal ≢ why.Short) → f.byte < length bs
 
--- and so it is of every refusal of every file
+-- of every refusal of every file, the byte is at most the length, and equal to it exactly for 1
 abbrev pub EveryByteWithin : Type 0
 EveryByteWithin = (bs : List ℕ) (f : Fault) → Refused bs f → ByteWithin bs f
 

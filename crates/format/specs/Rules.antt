@@ -98,7 +98,7 @@ kind_rules s fs =
 abbrev pub suits : List Channel → ℕ → ℕ → Bool
 suits cs k v = cond (k == 10) (directed In cs (length cs) v) (cond (k == 11) (directed Out cs (length cs) v) true)
 
--- then the other ranges, in a script with the channels cs and m instructions: registers, place and channel
+-- the other ranges of an instruction, in a script with the channels cs and m instructions: registers, place and channel
 abbrev pub range_rules : List Channel → ℕ → Site → List Field → List Rule
 range_rules cs m s fs =
     in_range s (nat_lt (value_of (at fs 1)) 16) (at fs 1)

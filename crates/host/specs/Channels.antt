@@ -55,7 +55,7 @@ abbrev pub oldest : List ℤ → Result ℤ Refusal
 oldest [] = Err Empty
 oldest (v ∷ vs) = Ok v
 
--- and the values after it
+-- the values after the oldest
 abbrev pub rest : List ℤ → List ℤ
 rest [] = []
 rest (v ∷ vs) = vs

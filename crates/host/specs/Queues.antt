@@ -10,6 +10,6 @@ queued list room k qs = record { count = length qs; capacity = λ c. slice_index
 abbrev pub NoMemoryPut : {H : Type 0} → H → ℕ → ℤ → H → Type 0
 NoMemoryPut h c v k = Unit {0}
 
--- and the same of a take
+-- a take on a host whose memory is nobody else's: there is nothing to say of it
 abbrev pub NoMemoryTake : {H : Type 0} → H → ℕ → H → Type 0
 NoMemoryTake h c k = Unit {0}

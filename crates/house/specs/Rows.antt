@@ -15,34 +15,34 @@ Accepted n rows = (1 ≤ n) × (n ≤ 16) × Partial n (told rows)
 abbrev pub mapped : ℕ → List ℕ → Order
 mapped n rows = record { size = n; flows = told rows; picks = own_turn n }
 
--- what is judged one after another: first, of row b, that it has a one only at a level, and only if b is one
+-- the first judgement, of row b: it has a one only at a level, and only if b is one
 abbrev pub RowClear : ℕ → List ℕ → ℕ → Type 0
 RowClear n rows b = (a : ℕ) → told rows a b ≡ true → (a < n) × (b < n)
 
--- of all rows
+-- a row has a one only at a level, and only if it is a level's row
 abbrev pub Clear : ℕ → List ℕ → Type 0
 Clear n rows = (a b : ℕ) → told rows a b ≡ true → (a < n) × (b < n)
 
--- then, that each level flows to itself
+-- the second judgement: each level flows to itself
 abbrev pub Itself : ℕ → List ℕ → Type 0
 Itself n rows = (a : ℕ) → a < n → told rows a a ≡ true
 
--- then, of one level, that no other flows both to it and from it
+-- the third judgement, of level a: no other flows both to it and from it
 unfoldable pub OneWayFrom : ℕ → List ℕ → ℕ → Type 0
 OneWayFrom n rows a = (b : ℕ) → b < n → told rows a b ≡ true → told rows b a ≡ true → a ≡ b
 
--- of all levels
+-- no two different levels flow both ways
 abbrev pub OneWay : ℕ → List ℕ → Type 0
 OneWay n rows = (a : ℕ) → a < n → OneWayFrom n rows a
 
--- then, of two levels, that where a flows to b it flows to whatever level b flows to
+-- the fourth judgement, of levels a and b: where a flows to b it flows to whatever level b flows to
 abbrev pub OnwardThrough : ℕ → List ℕ → ℕ → ℕ → Type 0
 OnwardThrough n rows a b = (c : ℕ) → c < n → told rows a b ≡ true → told rows b c ≡ true → told rows a c ≡ true
 
--- of one level with all others
+-- the fourth judgement, of level a: where it flows to a level, it flows to whatever level that flows to
 unfoldable pub OnwardFrom : ℕ → List ℕ → ℕ → Type 0
 OnwardFrom n rows a = (b : ℕ) → b < n → OnwardThrough n rows a b
 
--- of all levels
+-- where a level flows to another, it flows to whatever level that flows to
 abbrev pub Onward : ℕ → List ℕ → Type 0
 Onward n rows = (a : ℕ) → a < n → OnwardFrom n rows a

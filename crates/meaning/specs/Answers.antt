@@ -40,18 +40,18 @@ abbrev pub answer_of : {A : Type 0} → (A → Answer) → Result A Refusal → 
 answer_of f (Ok a) = f a
 answer_of f (Err e) = refused e
 
--- of a feed
+-- what the code answers to a feed
 abbrev pub fed_by : Result (Unit {0}) Refusal → Answer
 fed_by = answer_of (λ _. fed)
 
--- of a collect
+-- what the code answers to a collect
 abbrev pub collected_by : Result ℤ Refusal → Answer
 collected_by = answer_of collected
 
--- of a turn
+-- what the code answers to a turn
 abbrev pub turned_by : Result (Option Moved) Refusal → Answer
 turned_by = answer_of turned
 
--- of a question about a level
+-- what the code answers to a question about a level
 abbrev pub told_by : Result Standing Refusal → Answer
 told_by = answer_of told

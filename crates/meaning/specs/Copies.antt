@@ -23,7 +23,7 @@ with_at f k v j = cond (j == k) v (f j)
 abbrev pub go_to : Copy → ℕ → Copy
 go_to c i = record { next = i; registers = c.registers; positions = c.positions }
 
--- and to the instruction after its own
+-- the copy goes to the instruction after its own, and all else is as before
 abbrev pub go_on : Copy → Copy
 go_on c = go_to c (suc c.next)
 

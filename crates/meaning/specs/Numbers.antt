@@ -23,7 +23,7 @@ carried (Defaulted k v) = Some (k, v)
 carried (Wrote k v) = Some (k, v)
 carried (Withheld k v) = Some (k, v)
 
--- the same, as a list
+-- a channel and a value, if there are, as a list
 abbrev pub both_of : Option (ℕ × ℤ) → List ℤ
 both_of None = []
 both_of (Some p) = pos p.0 ∷ p.1 ∷ []

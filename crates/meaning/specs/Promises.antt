@@ -44,7 +44,7 @@ CalledAlike l o xs p ys = kept o.script o.order l xs ≡ kept p.script p.order l
 abbrev pub sees : ℕ → Opening → List Call → List Answer
 sees l o calls = seen o.script o.order l (logged o calls)
 
--- the same answers, one by one and in order, as values and in numbers
+-- two logs are the same seen from level l: the same answers, one by one and in order, as values and in numbers
 pub record SeenAlike (l : ℕ) (o : Opening) (xs : List Call) (p : Opening) (ys : List Call) : Type 0 where
   pub answers : sees l o xs ≡ sees l p ys
   pub numbers : map in_numbers (sees l o xs) ≡ map in_numbers (sees l p ys)

@@ -9,7 +9,7 @@ module _ (f : Frame) (s : State) (l : ℕ) (c : Copy) (k : ℕ) where
   abbrev pub Heard : Type 0
   Heard = (f.order.flows (level_of f k) l ≡ true) × (c.positions k < 64)
 
-  -- and the copy is where the tape ends
+  -- the channel flows to l, and the copy has read all of a tape that is not at its end
   abbrev pub AtEnd : Type 0
   AtEnd = Heard × (length (s.tape k) ≤ c.positions k)
 
@@ -32,6 +32,6 @@ module _ (f : Frame) (s : State) (l : ℕ) (c : Copy) (k : ℕ) where
 abbrev pub Inputs : Type 0
 Inputs = (f : Frame) (s : State) (l : ℕ) (c : Copy) (k : ℕ) → Gives f s l c k (gets f s l c k)
 
--- and no two rules say different things
+-- no two rules say different things of one in
 abbrev pub OneRule : Type 0
 OneRule = (f : Frame) (s : State) (l : ℕ) (c : Copy) (k : ℕ) (g : Got) → Gives f s l c k g → g ≡ gets f s l c k

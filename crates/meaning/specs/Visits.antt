@@ -42,7 +42,7 @@ pub record State : Type 0 where
 abbrev pub framed : Opening → Frame
 framed o = record { script = o.script; order = o.order; count = o.host.count; capacity = o.host.capacity }
 
--- and the state that it begins in: no turn so far, every copy as it begins, every tape empty, the lists as handed over
+-- the state that a visit begins in: no turn so far, every copy as it begins, every tape empty, the lists as handed over
 abbrev pub opened : Opening → State
 opened o = record { turns = 0; copy = λ _. first; steps = λ _. 0; tape = λ _. []; lists = o.host.list }
 
@@ -132,7 +132,7 @@ status (lacks_value k) = LacksValue k
 status (lacks_space k) = LacksSpace k
 status ended = Ended
 
--- of the four only ready is ready
+-- a copy is ready if its status says so, and lacking or ended it is not
 abbrev pub is_ready : Status → Bool
 is_ready Ready = true
 is_ready (LacksValue k) = false

@@ -12,7 +12,7 @@ abbrev pub lowest : ℕ → Levels → Option ℕ
 lowest zero s = None
 lowest (suc n) s = first_some (lowest n s) (cond (s n) (Some n) None)
 
--- an answer that is the lowest member below n: ready, and none below it; or nobody, where none is
+-- a lowest answer of n levels: a ready level below n, and none ready below it; or nobody, where none below n is ready
 abbrev pub Lowest : ℕ → Levels → Option ℕ → Type 0
 Lowest n s (Some a) = (a < n) × (s a ≡ true) × ((b : ℕ) → b < a → s b ≡ false)
 Lowest n s None = (a : ℕ) → a < n → s a ≡ false

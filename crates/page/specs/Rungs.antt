@@ -39,7 +39,7 @@ ladder_lawful n low high = record {
       cond-true (nat_lt p n) (lowest n t) None w.0 ∙ lowest_found n t l h.0 ready idle;
 }
 
--- and a level is picked exactly where it is ready and no ready level is below it
+-- flow on a ladder is upward, and at a place below n exactly the lowest ready level is picked
 pub picks_lowest : (n : ℕ) → PicksLowest n (ladder n)
 picks_lowest n = record {
   flows_up = λ a b. (λ e. grind (arith, nat_tests), λ h k. grind (arith, nat_tests));

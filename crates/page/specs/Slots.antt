@@ -18,7 +18,7 @@ room q = 32
 abbrev pub channels_of : SlotHost → Channels
 channels_of h = queued contents room 32 h.queues
 
--- what it means once it is made: 16 channels of capacity 32 that hold nothing
+-- what a slot host means that was just made: 16 channels of capacity 32 that hold nothing
 abbrev pub empty_channels : Channels
 empty_channels = record { count = 16; capacity = λ _. 32; list = λ _. [] }
 
@@ -32,6 +32,6 @@ all_alike (q ∷ qs) (suc c) = all_alike qs c
 pub sized : (h : SlotHost) → ((channels_of h).count ≡ 16) × ((c : ℕ) → (channels_of h).capacity c ≡ 32)
 sized h = (h.all, all_alike h.queues)
 
--- so it has at most 16, each of a capacity from 1 to 65,535
+-- every slot host has at most 16 channels, each of a capacity from 1 to 65,535
 pub slots_lawful : (h : SlotHost) → Lawful (channels_of h)
 slots_lawful h = record { few = omega (arith, (sized h).0); roomy = λ c _. omega (arith, (sized h).1 c); bounded = λ c _. omega (arith, (sized h).1 c) }

@@ -28,11 +28,11 @@ Hands s file k p (Instruction b) =
     × (b.now ≡ encode_instruction (slice_index_or s.instructions (k - length s.channels) Skip))
     × Stands file p b.now
 
--- that record, or nothing where k is past the last
+-- the record with index k of the file, or nothing where k is past the last
 abbrev pub Handed : Model → List ℕ → ℕ → Option (ℕ × Record) → Type 0
 Handed s file k None = length s.channels + length s.instructions ≤ k
 Handed s file k (Some x) = Hands s file k x.0 x.1
 
--- of the file of a script the record that is asked for; any other file is refused as reading refuses it
+-- of a script's file the record that is asked for; any other file is refused as reading refuses it
 abbrev pub Splits : List ℕ → ℕ → Result (Option (ℕ × Record)) Fault → Type 0
 Splits file k r = MatchResult r (λ o. (s : Script) × (encode s ≡ file) × Handed (model_of s) file k o) (λ f. Refused file f × NoScript file)

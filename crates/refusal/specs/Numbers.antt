@@ -22,7 +22,7 @@ number_of Full = 14
 number_of Empty = 15
 number_of Spent = 16
 
--- and its NAME there, letter by letter
+-- the NAME that the table of docs/refusals.md gives each refusal, letter by letter
 abbrev pub name_of : Refusal → List ℕ
 name_of Short = codes "SHORT"
 name_of Head = codes "HEAD"

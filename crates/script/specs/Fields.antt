@@ -26,7 +26,7 @@ instruction_from f =
 abbrev pub KnownByFields : Type 0
 KnownByFields = (x : Instruction) → instruction_from (fields_of x) ≡ x
 
--- and so it is, of each kind and each operation
+-- each instruction comes back from its fields: shown of each kind and each operation
 pub instruction_back : KnownByFields
 instruction_back Skip = refl
 instruction_back (Set target number) = refl

@@ -41,7 +41,7 @@ sound cs c m Stop = true
 abbrev pub Headed : ℕ → ℕ → Type 0
 Headed n c = (1 ≤ n) × (n ≤ 16) × (c ≤ 16)
 
--- and how many instructions: 1 to 256
+-- how many instructions there may be: 1 to 256
 abbrev pub Counted : ℕ → Type 0
 Counted m = (1 ≤ m) × (m ≤ 256)
 

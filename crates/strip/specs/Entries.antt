@@ -35,6 +35,7 @@ closed_up at n es = paste es at (drop (at + 1) es) (n - (at + 1))
 abbrev pub entries_put : ℕ → ℕ → ℤ → List Entry → List Entry
 entries_put n c v es = slice_set es n (record { channel = c; value = v })
 
--- and after a take: those in use have the first of the channel no more, and the last that was in use stays behind them
+-- the lent entries after a take, of which the first n are in use: those have the first of the channel no more, and the
+-- last that was in use stays behind them (only asked where the channel has one)
 abbrev pub entries_taken : ℕ → ℕ → List Entry → List Entry
 entries_taken n c es = without c (take n es) ++ drop (n - 1) es

@@ -22,14 +22,15 @@ FairShares = (asked given : ℕ) → Fair (strip_count asked given) (strip_capac
 abbrev pub NeverCrowded : Type 0
 NeverCrowded = (n k c : ℕ) (es : List Entry) → known n es ≡ true → ((d : ℕ) → length (listed d es) ≤ k) → c < n → length (listed c es) < k → length es < n * k
 
--- so a channel that has space finds an unused entry, whatever the other channels hold
+-- the entries in use are of the strip's channels, none of which holds more than its capacity; all can be full at once;
+-- and a channel that has space finds an unused entry, whatever the other channels hold
 pub record Unfilled (h : StripHost) : Type 0 where
   pub numbered : known h.count (in_use h) ≡ true
   pub within : (c : ℕ) → length (listed c (in_use h)) ≤ h.capacity
   pub enough : h.count * h.capacity ≤ length (lent h)
   pub left : (c : ℕ) → c < h.count → length (listed c (in_use h)) < h.capacity → h.len < length (lent h)
 
--- and so it is of every strip host
+-- it is so of every strip host
 abbrev pub NeverFull : Type 0
 NeverFull = (h : StripHost) → Unfilled h
 
@@ -37,12 +38,12 @@ NeverFull = (h : StripHost) → Unfilled h
 abbrev pub StoresNext : Type 0
 StoresNext = (c : ℕ) (v : ℤ) (used : List Entry) (x : Entry) (unused : List Entry) → entries_put (length used) c v (used ++ (x ∷ unused)) ≡ used ++ (record { channel = c; value = v } ∷ unused)
 
--- its channel's list ends with the value, and every other list is as before
+-- a put of v on channel c, the first n in use: the channel's list ends with v, and every other list is as before
 pub record Added (n c : ℕ) (v : ℤ) (es : List Entry) : Type 0 where
   pub own : listed c (take (n + 1) (entries_put n c v es)) ≡ listed c (take n es) ++ (v ∷ [])
   pub others : (d : ℕ) → (d ≢ c) → listed d (take (n + 1) (entries_put n c v es)) ≡ listed d (take n es)
 
--- and so it is of every put that finds an unused entry, with the first n in use
+-- every put that finds an unused entry adds to its own channel's list alone, where the first n are in use
 abbrev pub AddsNewest : Type 0
 AddsNewest = (n c : ℕ) (v : ℤ) (es : List Entry) → n < length es → Added n c v es
 
@@ -56,13 +57,14 @@ last_of e (x ∷ xs) = last_of x xs
 abbrev pub MovesForward : Type 0
 MovesForward = (c : ℕ) (before : List Entry) (e : Entry) (after unused : List Entry) → listed c before ≡ [] → e.channel ≡ c → entries_taken (length (before ++ (e ∷ after))) c ((before ++ (e ∷ after)) ++ unused) ≡ (before ++ after) ++ (last_of e after ∷ unused)
 
--- its channel's list loses the oldest, and every other list is as before
+-- a take from channel c, the first n in use: the channel's list loses the oldest, every other list is as before, and no
+-- entry is lost
 pub record Taken (n c : ℕ) (es : List Entry) : Type 0 where
   pub own : listed c (take (n - 1) (entries_taken n c es)) ≡ rest (listed c (take n es))
   pub others : (d : ℕ) → (d ≢ c) → listed d (take (n - 1) (entries_taken n c es)) ≡ listed d (take n es)
   pub size : length (entries_taken n c es) ≡ length es
 
--- and so it is of every take from a channel that holds a value, with the first n in use
+-- every take from a channel that holds a value takes its oldest alone, where the first n are in use
 abbrev pub TakesOldest : Type 0
 TakesOldest = (n c : ℕ) (es : List Entry) → n ≤ length es → 0 < length (listed c (take n es)) → Taken n c es
 

@@ -15,7 +15,7 @@ strip n k es = record { count = n; capacity = λ _. k; list = λ c. listed c es 
 abbrev pub lent : StripHost → List Entry
 lent h = h.entries.now
 
--- those of them in use: the first ones
+-- the lent entries that are in use: the first ones
 abbrev pub in_use : StripHost → List Entry
 in_use h = take h.len (lent h)
 
@@ -27,7 +27,7 @@ channels_of h = strip h.count h.capacity (in_use h)
 abbrev pub empty_strip : ℕ → ℕ → Channels
 empty_strip asked given = strip (strip_count asked given) (strip_capacity (strip_count asked given) given) []
 
--- so every strip host has at most 16 channels, each of a capacity from 1 to 65,535
+-- every strip host has at most 16 channels, each of a capacity from 1 to 65,535
 pub strip_lawful : (h : StripHost) → Lawful (channels_of h)
 strip_lawful h = record { few = h.few; roomy = λ c lt. h.roomy (omega arith); bounded = λ c lt. omega arith }
 
@@ -35,6 +35,6 @@ strip_lawful h = record { few = h.few; roomy = λ c lt. h.roomy (omega arith); b
 abbrev pub StripPuts : StripHost → ℕ → ℤ → StripHost → Type 0
 StripPuts h c v k = (lent k ≡ entries_put h.len c v (lent h)) × (k.len ≡ h.len + 1) × (k.entries.ghost_name ≡ h.entries.ghost_name)
 
--- the same of an accepted take, with one fewer in use
+-- what an accepted take leaves: every entry of the lent memory, which is still the same memory, and one fewer in use
 abbrev pub StripTakes : StripHost → ℕ → StripHost → Type 0
 StripTakes h c k = (lent k ≡ entries_taken h.len c (lent h)) × (k.len ≡ h.len - 1) × (k.entries.ghost_name ≡ h.entries.ghost_name)

@@ -8,7 +8,7 @@ abbrev pub Gives : {X Y : Type 0} → (X → Y) → Result Y LineError → Resul
 Gives view s (Ok x) = s ≡ Ok (view x)
 Gives view s (Err e) = (e ≡ Memory) ⊎ (s ≡ Err e)
 
--- what f makes of an answer; an error stays the error
+-- what f makes of an answer, where it is no error
 abbrev pub then : {X Y : Type 0} → Result X LineError → (X → Result Y LineError) → Result Y LineError
 then (Ok x) f = f x
 then (Err e) f = Err e
