@@ -5,15 +5,15 @@ use Rattle.meaning.specs.Visits.{Frame, State, level_of, Got, default, again, fr
 
 -- an in from channel k by a copy c at level l
 module _ (f : Frame) (s : State) (l : ℕ) (c : Copy) (k : ℕ) where
-  -- the channel flows to l, and the position is not at the end of what a tape can hold
+  -- the channel flows to l, and the position is below 64, which is all that a tape can hold
   abbrev pub Heard : Type 0
   Heard = (f.order.flows (level_of f k) l ≡ true) × (c.positions k < 64)
 
-  -- the channel flows to l, and the copy has read all of a tape that is not at its end
+  -- the channel is heard, and the tape has no value yet at the copy's position
   abbrev pub AtEnd : Type 0
   AtEnd = Heard × (length (s.tape k) ≤ c.positions k)
 
-  -- what it gives
+  -- what the in gives it
   pub data Gives : Got → Type 0 where
     -- the channel does not flow to the copy's level: 0
     unheard : f.order.flows (level_of f k) l ≡ false → Gives default

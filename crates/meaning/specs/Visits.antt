@@ -132,7 +132,7 @@ status (lacks_value k) = LacksValue k
 status (lacks_space k) = LacksSpace k
 status ended = Ended
 
--- a copy is ready if its status says so, and lacking or ended it is not
+-- does the status say that the copy is ready
 abbrev pub is_ready : Status → Bool
 is_ready Ready = true
 is_ready (LacksValue k) = false
