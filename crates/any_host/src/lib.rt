@@ -1,4 +1,4 @@
-// One type for the slot host and the maker's own.
+// One type for the slot host, the strip host and the maker's own.
 #![tactic(auto)]
 
 pub mod hosts;

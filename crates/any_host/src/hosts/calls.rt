@@ -6,18 +6,19 @@ use crate::hosts::AnyHost;
 use host::calls::Host;
 use refusal::Refusal;
 
-impl<H: Host> Host for AnyHost<H> {
-    ghost channels = { λ a. any_channels H.Host.channels a };
+impl<S: Host, H: Host> Host for AnyHost<S, H> {
+    ghost channels = { λ a. any_channels S.Host.channels H.Host.channels a };
 
-    ghost lawful = { λ a. any_lawful H.Host.channels H.Host.lawful a };
+    ghost lawful = { λ a. any_lawful S.Host.channels H.Host.channels S.Host.lawful H.Host.lawful a };
 
-    ghost puts = { λ a c v b. AnyPuts H.Host.puts a c v b };
+    ghost puts = { λ a c v b. AnyPuts S.Host.puts H.Host.puts a c v b };
 
-    ghost takes = { λ a c b. AnyTakes H.Host.takes a c b };
+    ghost takes = { λ a c b. AnyTakes S.Host.takes H.Host.takes a c b };
 
     fn count(&self) -> u8 {
         match self {
             AnyHost::Slot(host) => host.count(),
+            AnyHost::Strip(host) => host.count(),
             AnyHost::Own(host) => host.count(),
         }
     }
@@ -25,6 +26,7 @@ impl<H: Host> Host for AnyHost<H> {
     fn held(&self, channel: u8) -> Result<usize, Refusal> {
         match self {
             AnyHost::Slot(host) => host.held(channel),
+            AnyHost::Strip(host) => host.held(channel),
             AnyHost::Own(host) => host.held(channel),
         }
     }
@@ -32,6 +34,7 @@ impl<H: Host> Host for AnyHost<H> {
     fn space(&self, channel: u8) -> Result<usize, Refusal> {
         match self {
             AnyHost::Slot(host) => host.space(channel),
+            AnyHost::Strip(host) => host.space(channel),
             AnyHost::Own(host) => host.space(channel),
         }
     }
@@ -39,6 +42,7 @@ impl<H: Host> Host for AnyHost<H> {
     fn put(&mut self, channel: u8, value: i32) -> Result<(), Refusal> {
         match self {
             AnyHost::Slot(host) => host.put(channel, value),
+            AnyHost::Strip(host) => host.put(channel, value),
             AnyHost::Own(host) => host.put(channel, value),
         }
     }
@@ -46,6 +50,7 @@ impl<H: Host> Host for AnyHost<H> {
     fn take(&mut self, channel: u8) -> Result<i32, Refusal> {
         match self {
             AnyHost::Slot(host) => host.take(channel),
+            AnyHost::Strip(host) => host.take(channel),
             AnyHost::Own(host) => host.take(channel),
         }
     }
