@@ -1,5 +1,5 @@
 -- What the words of a line ask for. Assumes nothing.
-use Rattle.std.specs.Prelude.{ℕ, List, ℤ, Some, None, Ok, Err, vec_items, Option, Result}
+use Rattle.std.specs.Prelude.{ℕ, cond, List, ℤ, Some, None, Ok, Err, vec_items, Option, Result, nat_le}
 use Rattle.std.specs.Option.{ok_or}
 use Rattle.console.specs.declared.command.Command.{Command}
 use Rattle.console.specs.declared.command.Command.TheVariants as command
@@ -31,11 +31,26 @@ pub data Request : Type 0 where
   pick : ℕ → ℕ → Request
   slot_host : Request
   own_host : List ℕ → Request
+  strip_host : ℕ → ℕ → Request
   put : ℕ → ℤ → Request
   take : ℕ → Request
   count : Request
   held : ℕ → Request
   space : ℕ → Request
+  entries : Request
+  script : List ℕ → Request
+  open_visit : Request
+  feed : ℕ → ℤ → Request
+  collect : ℕ → Request
+  turn : Request
+  turns : ℕ → Request
+  ask : ℕ → Request
+  close_visit : Request
+  plain : Request
+  give : ℕ → Request
+  add : ℕ → ℤ → Request
+  step : Request
+  copy : Request
   help : Request
 
 abbrev pub request : Command → Request
@@ -51,11 +66,26 @@ request (command.Flows a b) = flows a b
 request (command.Pick p m) = pick p m
 request command.SlotHost = slot_host
 request (command.OwnHost caps) = own_host (vec_items caps)
+request (command.StripHost c n) = strip_host c n
 request (command.Put c v) = put c v
 request (command.Take c) = take c
 request command.Count = count
 request (command.Held c) = held c
 request (command.Space c) = space c
+request command.Entries = entries
+request (command.Script f) = script (vec_items f)
+request command.Open = open_visit
+request (command.Feed c v) = feed c v
+request (command.Collect c) = collect c
+request command.Turn = turn
+request (command.Turns k) = turns k
+request (command.Ask l) = ask l
+request command.Close = close_visit
+request command.Plain = plain
+request (command.Give c) = give c
+request (command.Add c v) = add c v
+request command.Step = step
+request command.Copy = copy
 request command.Help = help
 
 -- a request for one file, and the words after it
@@ -87,9 +117,14 @@ levels_asked ws = then (taken (λ w. ok_or (shape_of w) error.Shape) ws) (λ p. 
 abbrev pub by_kind : HostKind → List (List ℕ) → Result (Request × List (List ℕ)) LineError
 by_kind kind.Slot ws = Ok (slot_host, ws)
 by_kind kind.Caps ws = then (entries_from capacity_of 16 ws) (λ p. Ok (own_host p.0, p.1))
+by_kind kind.Strip ws = of_number_and (taken room_of) strip_host ws
 
 abbrev pub host_asked : List (List ℕ) → Result (Request × List (List ℕ)) LineError
 host_asked ws = then (taken (λ w. ok_or (host_of w) error.Host) ws) (λ p. by_kind p.0 p.1)
+
+-- turns in a row, ten million at most
+abbrev pub turns_asked : List (List ℕ) → Result (Request × List (List ℕ)) LineError
+turns_asked ws = then (taken count_of ws) (λ p. cond (nat_le p.0 10000000) (Ok (turns p.0, p.1)) (Err error.Turns))
 
 -- what the words after a command's name ask for, and the words after that
 abbrev pub asked : Verb → List (List ℕ) → Result (Request × List (List ℕ)) LineError
@@ -107,6 +142,20 @@ asked verb.Take ws = of_number take ws
 asked verb.Count ws = Ok (count, ws)
 asked verb.Held ws = of_number held ws
 asked verb.Space ws = of_number space ws
+asked verb.Entries ws = Ok (entries, ws)
+asked verb.Script ws = of_file script ws
+asked verb.Open ws = Ok (open_visit, ws)
+asked verb.Feed ws = of_number_and (taken value_of) feed ws
+asked verb.Collect ws = of_number collect ws
+asked verb.Turn ws = Ok (turn, ws)
+asked verb.Turns ws = turns_asked ws
+asked verb.Ask ws = of_number ask ws
+asked verb.Close ws = Ok (close_visit, ws)
+asked verb.Plain ws = Ok (plain, ws)
+asked verb.Give ws = of_number give ws
+asked verb.Add ws = of_number_and (taken value_of) add ws
+asked verb.Step ws = Ok (step, ws)
+asked verb.Copy ws = Ok (copy, ws)
 asked verb.Help ws = Ok (help, ws)
 
 -- the same by the command's name

@@ -2,7 +2,7 @@
 ghost use Rattle.std.specs.Option.{option_map};
 ghost use Rattle.text.specs.Answers.{Gives};
 ghost use Rattle.text.specs.Arguments.{Takes};
-ghost use Rattle.console.specs.Commands.{asked, by_kind, host_asked, levels_asked, named, request, request_of};
+ghost use Rattle.console.specs.Commands.{asked, by_kind, host_asked, levels_asked, named, request, request_of, turns_asked};
 ghost use Rattle.text.specs.Words.{left};
 
 use std::alloc::Global;
@@ -11,13 +11,18 @@ use text::lines::parse_line;
 use text::words::Words;
 use verb::{HostKind, Shape, Verb};
 
+// More turns are asked for by more than one line.
+const MOST_TURNS: usize = 10000000;
+
 // What a line asks for, with the files and numbers that it gives.
 #[derive(Drop)]
 pub enum Command {
     Read(Vec<u8>),
     Show(Vec<u8>),
-    Split { file: Vec<u8>, index: usize },
-    Write { file: Vec<u8>, room: usize },
+    // With the index of a record.
+    Split(Vec<u8>, usize),
+    // With the room of a buffer.
+    Write(Vec<u8>, usize),
     List(Vec<u8>),
     Ladder(usize),
     Compartments(usize),
@@ -28,11 +33,28 @@ pub enum Command {
     SlotHost,
     // The capacity of each channel.
     OwnHost(Vec<u16>),
-    Put { channel: usize, value: i32 },
+    StripHost { count: usize, entries: usize },
+    // A channel and a value, as in `Feed` and `Add`.
+    Put(usize, i32),
     Take(usize),
     Count,
     Held(usize),
     Space(usize),
+    Entries,
+    Script(Vec<u8>),
+    Open,
+    Feed(usize, i32),
+    Collect(usize),
+    Turn,
+    Turns(usize),
+    Ask(usize),
+    Close,
+    // A plain run begins; the four after it are its calls.
+    Plain,
+    Give(usize),
+    Add(usize, i32),
+    Step,
+    Copy,
     Help,
 }
 
@@ -58,6 +80,10 @@ impl Command {
         match kind {
             HostKind::Slot => Ok(Command::SlotHost),
             HostKind::Caps => Ok(Command::OwnHost(words.capacities()?)),
+            HostKind::Strip => Ok(Command::StripHost {
+                count: words.number()?,
+                entries: words.room()?,
+            }),
         }
     }
 
@@ -69,23 +95,28 @@ impl Command {
         Command::of_kind(kind, words)
     }
 
+    // The turns that the words ask for. A test, as `room_of` of the lines' words has: a function of bound and error would be as long.
+    fn turns(words: &mut Words) -> Result<Command, LineError>
+        ensures { Takes request (turns_asked (left words.old)) result (left words.new) }
+    {
+        let count = words.number()?;
+        if count <= MOST_TURNS {
+            Ok(Command::Turns(count))
+        } else {
+            Err(LineError::Turns)
+        }
+    }
+
     // The command of that verb, with the arguments that it takes from the words.
-    // Names apart from what they ask for: the verb picks the reader, and both consoles share the names. Only `host` stands
-    // again in the session's console, where a strip is a host too.
+    // Names apart from what they ask for: the verb picks the reader.
     pub fn of(verb: Verb, words: &mut Words) -> Result<Command, LineError>
         ensures { Takes request (asked verb (left words.old)) result (left words.new) }
     {
         match verb {
             Verb::Read => Ok(Command::Read(words.bytes()?)),
             Verb::Show => Ok(Command::Show(words.bytes()?)),
-            Verb::Split => Ok(Command::Split {
-                file: words.bytes()?,
-                index: words.number()?,
-            }),
-            Verb::Write => Ok(Command::Write {
-                file: words.bytes()?,
-                room: words.room()?,
-            }),
+            Verb::Split => Ok(Command::Split(words.bytes()?, words.number()?)),
+            Verb::Write => Ok(Command::Write(words.bytes()?, words.room()?)),
             Verb::List => Ok(Command::List(words.bytes()?)),
             Verb::Levels => Command::levels(words),
             Verb::Flows => Ok(Command::Flows {
@@ -97,20 +128,31 @@ impl Command {
                 mask: words.mask()?,
             }),
             Verb::Host => Command::host(words),
-            Verb::Put => Ok(Command::Put {
-                channel: words.number()?,
-                value: words.value()?,
-            }),
+            Verb::Put => Ok(Command::Put(words.number()?, words.value()?)),
             Verb::Take => Ok(Command::Take(words.number()?)),
             Verb::Count => Ok(Command::Count),
             Verb::Held => Ok(Command::Held(words.number()?)),
             Verb::Space => Ok(Command::Space(words.number()?)),
+            Verb::Entries => Ok(Command::Entries),
+            Verb::Script => Ok(Command::Script(words.bytes()?)),
+            Verb::Open => Ok(Command::Open),
+            Verb::Feed => Ok(Command::Feed(words.number()?, words.value()?)),
+            Verb::Collect => Ok(Command::Collect(words.number()?)),
+            Verb::Turn => Ok(Command::Turn),
+            Verb::Turns => Command::turns(words),
+            Verb::Ask => Ok(Command::Ask(words.number()?)),
+            Verb::Close => Ok(Command::Close),
+            Verb::Plain => Ok(Command::Plain),
+            Verb::Give => Ok(Command::Give(words.number()?)),
+            Verb::Add => Ok(Command::Add(words.number()?, words.value()?)),
+            Verb::Step => Ok(Command::Step),
+            Verb::Copy => Ok(Command::Copy),
             Verb::Help => Ok(Command::Help),
         }
     }
 
     // The command of that name, with the arguments that it takes from the words.
-    pub fn named(name: &[u8], words: &mut Words) -> Result<Command, LineError>
+    fn named(name: &[u8], words: &mut Words) -> Result<Command, LineError>
         ensures { Takes request (named name.now (left words.old)) result (left words.new) }
     {
         Command::of(Verb::of(name).ok_or(LineError::Unknown)?, words)

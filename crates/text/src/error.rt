@@ -27,14 +27,12 @@ pub enum LineError {
     Mask,
     #[error("levels are a ladder, compartments or a map")]
     Shape,
-    #[error("a host is slot or caps")]
+    #[error("a host is slot, caps or strip")]
     Host,
     #[error("a capacity is a number from 1 to 65535")]
     Capacity,
     #[error("a value is a number from -2147483648 to 2147483647")]
     Value,
-    #[error("a host is slot, caps or strip")]
-    AnyHost,
     #[error("too many turns for one line, at most 10000000")]
     Turns,
     #[error("out of memory")]

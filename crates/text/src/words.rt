@@ -1,7 +1,6 @@
 // The words of a line, and what they stand for.
 ghost use Rattle.std.specs.Prelude.{◌≡◌, ℕ, ◌<◌, ◌≤◌, true, false, List, Result, length, IfOk, vec_items, vec_len, string_bytes, slice_index};
 ghost use Rattle.std.specs.Char.{is_ascii_whitespace};
-ghost use Rattle.std.specs.Str.{bytes_eq};
 ghost use Rattle.text.specs.Answers.{Gives};
 ghost use Rattle.text.specs.Arguments.{Reads, Takes, bytes_of, capacity_of, count_of, ended, entries_from, mask_of, negative, positive, room_of, row_of, table_from, taken, value_of, word_of};
 ghost use Rattle.text.specs.Words.{words_of, left, Cut, First, Next};
@@ -43,13 +42,6 @@ fn cut_word(text: &[u8]) -> (&[u8], &[u8])
     text.split_at(word_length(text))
 }
 
-// Is the word that name?
-pub fn is_name(word: &[u8], name: &str) -> bool
-    ensures { result ≡ bytes_eq word.now name.now }
-{
-    word == name.as_bytes()
-}
-
 // The bytes that a word stands for: hex, or `-` for no bytes.
 pub fn bytes_of(heap: Global, word: &[u8]) -> Result<Vec<u8>, LineError>
     ensures { Gives vec_items (bytes_of word.now) result }
@@ -79,7 +71,7 @@ fn count_of(word: &[u8]) -> Result<usize, LineError>
 }
 
 // The same, of bytes to write to.
-// A test here and in `turns` of the session's console: a function of bound and error would be as long.
+// A test here and in `turns` of the console: a function of bound and error would be as long.
 fn room_of(word: &[u8]) -> Result<usize, LineError>
     ensures { result ≡ room_of word.now }
 {

@@ -7,23 +7,8 @@ use Rattle.verb.specs.declared.Shape.{Shape}
 use Rattle.verb.specs.declared.Shape.TheVariants as shape
 use Rattle.verb.specs.declared.Verb.{Verb}
 use Rattle.verb.specs.declared.Verb.TheVariants as verb
-use Rattle.verb.specs.declared.VisitVerb.{VisitVerb}
-use Rattle.verb.specs.declared.VisitVerb.TheVariants as visit
 
--- commands of a visit
-abbrev pub visit_verb_of : List ℕ → Option VisitVerb
-visit_verb_of w =
-    cond (bytes_eq w (codes "script")) (Some visit.Script)
-    (cond (bytes_eq w (codes "open")) (Some visit.Open)
-    (cond (bytes_eq w (codes "feed")) (Some visit.Feed)
-    (cond (bytes_eq w (codes "collect")) (Some visit.Collect)
-    (cond (bytes_eq w (codes "turn")) (Some visit.Turn)
-    (cond (bytes_eq w (codes "turns")) (Some visit.Turns)
-    (cond (bytes_eq w (codes "ask")) (Some visit.Ask)
-    (cond (bytes_eq w (codes "entries")) (Some visit.Entries)
-    (cond (bytes_eq w (codes "close")) (Some visit.Close) None))))))))
-
--- commands about files, levels and hosts
+-- the commands
 abbrev pub verb_of : List ℕ → Option Verb
 verb_of w =
     cond (bytes_eq w (codes "read")) (Some verb.Read)
@@ -40,7 +25,21 @@ verb_of w =
     (cond (bytes_eq w (codes "count")) (Some verb.Count)
     (cond (bytes_eq w (codes "held")) (Some verb.Held)
     (cond (bytes_eq w (codes "space")) (Some verb.Space)
-    (cond (bytes_eq w (codes "help")) (Some verb.Help) None))))))))))))))
+    (cond (bytes_eq w (codes "entries")) (Some verb.Entries)
+    (cond (bytes_eq w (codes "script")) (Some verb.Script)
+    (cond (bytes_eq w (codes "open")) (Some verb.Open)
+    (cond (bytes_eq w (codes "feed")) (Some verb.Feed)
+    (cond (bytes_eq w (codes "collect")) (Some verb.Collect)
+    (cond (bytes_eq w (codes "turn")) (Some verb.Turn)
+    (cond (bytes_eq w (codes "turns")) (Some verb.Turns)
+    (cond (bytes_eq w (codes "ask")) (Some verb.Ask)
+    (cond (bytes_eq w (codes "close")) (Some verb.Close)
+    (cond (bytes_eq w (codes "plain")) (Some verb.Plain)
+    (cond (bytes_eq w (codes "give")) (Some verb.Give)
+    (cond (bytes_eq w (codes "add")) (Some verb.Add)
+    (cond (bytes_eq w (codes "step")) (Some verb.Step)
+    (cond (bytes_eq w (codes "copy")) (Some verb.Copy)
+    (cond (bytes_eq w (codes "help")) (Some verb.Help) None))))))))))))))))))))))))))))
 
 -- the kinds of regime
 abbrev pub shape_of : List ℕ → Option Shape
@@ -49,8 +48,9 @@ shape_of w =
     (cond (bytes_eq w (codes "compartments")) (Some shape.Compartments)
     (cond (bytes_eq w (codes "map")) (Some shape.Map) None))
 
--- the hosts that every program can make
+-- the kinds of host that the tool can make
 abbrev pub host_of : List ℕ → Option HostKind
 host_of w =
     cond (bytes_eq w (codes "slot")) (Some kind.Slot)
-    (cond (bytes_eq w (codes "caps")) (Some kind.Caps) None)
+    (cond (bytes_eq w (codes "caps")) (Some kind.Caps)
+    (cond (bytes_eq w (codes "strip")) (Some kind.Strip) None))

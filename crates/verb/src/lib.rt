@@ -1,9 +1,9 @@
 // The names of the commands.
 // `of` and no `TryFrom`: the error of a word that is no name differs by caller.
-#![tactic(auto, using(crate::proofs::Names::same_name, crate::proofs::Names::other_length, crate::proofs::Names::other_head))]
+#![tactic(auto, using(crate::proofs::Names::same_name, crate::proofs::Names::other_length, crate::proofs::Names::other_head, crate::proofs::Names::other_second, crate::proofs::Names::other_third))]
 
 ghost use Rattle.std.specs.Prelude.{◌≡◌};
-ghost use Rattle.verb.specs.Verbs.{host_of, shape_of, verb_of, visit_verb_of};
+ghost use Rattle.verb.specs.Verbs.{host_of, shape_of, verb_of};
 
 // What a line asks for, by its first word.
 #[derive(Clone, Copy, PartialEq, Eq, Debug)]
@@ -22,6 +22,20 @@ pub enum Verb {
     Count,
     Held,
     Space,
+    Entries,
+    Script,
+    Open,
+    Feed,
+    Collect,
+    Turn,
+    Turns,
+    Ask,
+    Close,
+    Plain,
+    Give,
+    Add,
+    Step,
+    Copy,
     Help,
 }
 
@@ -45,41 +59,21 @@ impl Verb {
             b"count" => Some(Verb::Count),
             b"held" => Some(Verb::Held),
             b"space" => Some(Verb::Space),
+            b"entries" => Some(Verb::Entries),
+            b"script" => Some(Verb::Script),
+            b"open" => Some(Verb::Open),
+            b"feed" => Some(Verb::Feed),
+            b"collect" => Some(Verb::Collect),
+            b"turn" => Some(Verb::Turn),
+            b"turns" => Some(Verb::Turns),
+            b"ask" => Some(Verb::Ask),
+            b"close" => Some(Verb::Close),
+            b"plain" => Some(Verb::Plain),
+            b"give" => Some(Verb::Give),
+            b"add" => Some(Verb::Add),
+            b"step" => Some(Verb::Step),
+            b"copy" => Some(Verb::Copy),
             b"help" => Some(Verb::Help),
-            _ => None,
-        }
-    }
-}
-
-// What a line asks for of a visit, and of what a visit is made from.
-#[derive(Clone, Copy, PartialEq, Eq, Debug)]
-pub enum VisitVerb {
-    Script,
-    Open,
-    Feed,
-    Collect,
-    Turn,
-    Turns,
-    Ask,
-    Entries,
-    Close,
-}
-
-impl VisitVerb {
-    // The command of that name.
-    pub fn of(word: &[u8]) -> Option<VisitVerb>
-        ensures { result ≡ visit_verb_of word.now }
-    {
-        match word {
-            b"script" => Some(VisitVerb::Script),
-            b"open" => Some(VisitVerb::Open),
-            b"feed" => Some(VisitVerb::Feed),
-            b"collect" => Some(VisitVerb::Collect),
-            b"turn" => Some(VisitVerb::Turn),
-            b"turns" => Some(VisitVerb::Turns),
-            b"ask" => Some(VisitVerb::Ask),
-            b"entries" => Some(VisitVerb::Entries),
-            b"close" => Some(VisitVerb::Close),
             _ => None,
         }
     }
@@ -107,21 +101,23 @@ impl Shape {
     }
 }
 
-// The hosts that every program can make.
+// The kinds of host that the tool can make.
 #[derive(Clone, Copy, PartialEq, Eq, Debug)]
 pub enum HostKind {
     Slot,
     Caps,
+    Strip,
 }
 
 impl HostKind {
-    // The host of that name.
+    // The kind of that name.
     pub fn of(word: &[u8]) -> Option<HostKind>
         ensures { result ≡ host_of word.now }
     {
         match word {
             b"slot" => Some(HostKind::Slot),
             b"caps" => Some(HostKind::Caps),
+            b"strip" => Some(HostKind::Strip),
             _ => None,
         }
     }
