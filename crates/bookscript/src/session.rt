@@ -9,7 +9,9 @@ use std::ops::ControlFlow;
 use std::{fmt, io};
 use strip::entry::Entry;
 use strip::strips::StripHost;
-use tool::hosts::{Capacities, NewHost, SLOT_CAPACITY, TellsEntries, host_asked, tell_host};
+use tool::hosts::{
+    Capacities, NewHost, SLOT_CAPACITY, TellsEntries, ToolHost, host_asked, tell_host,
+};
 use tool::lines::command_of;
 use tool::made::Made;
 
@@ -186,15 +188,15 @@ impl<R: Read + Drop> Session<R> {
     ) -> io::Result<Option<NewHost>> {
         let host = StripHost::new(entries, count);
         let capacity = host.capacity();
-        self.serve(rt, host, capacity)
+        self.serve(rt, ToolHost::Strip(host), capacity)
     }
 
     // The same of the host that was asked for, of whichever kind.
     fn serve_new(&mut self, rt: &HostRuntime, host: NewHost) -> io::Result<Option<NewHost>> {
         match host {
-            NewHost::Slot => self.serve(rt, SlotHost::new(), SLOT_CAPACITY),
+            NewHost::Slot => self.serve(rt, ToolHost::Slot(SlotHost::new()), SLOT_CAPACITY),
             NewHost::Own { host, capacities } => {
-                self.serve(rt, host, Capacities(capacities.as_slice()))
+                self.serve(rt, ToolHost::Own(host), Capacities(capacities.as_slice()))
             }
             NewHost::Strip { count, entries } => {
                 let mut entries = entries;

@@ -1,8 +1,8 @@
 // The hosts that the tool can make, and what can be shown of them.
 use console::command::Command;
 use host::calls::Host;
+use house::hosts::AnyHost;
 use own_host::lanes::HeapHost;
-use page::slots::SlotHost;
 use std::{fmt, io};
 use strip::entry::Entry;
 use strip::strips::StripHost;
@@ -27,6 +27,9 @@ impl fmt::Display for Capacities<'_> {
         Ok(())
     }
 }
+
+// The host of a session, chosen by a line.
+pub type ToolHost<'a> = AnyHost<StripHost<'a>, HeapHost>;
 
 // A host to be, with the memory that it needs.
 #[derive(Drop)]
@@ -79,20 +82,19 @@ impl fmt::Display for Entries<'_> {
     }
 }
 
-// What can be shown of a host besides its channels: only a strip has entries.
+// What can be shown of a host besides its channels. A trait, since what serves a host is generic over it: a strip is lent
+// its entries, and such a value goes round a loop under a type parameter alone.
 pub trait TellsEntries {
-    fn tell_entries(&self, rt: &HostRuntime) -> io::Result<()> {
-        println!(rt; "unmade")
-    }
+    fn tell_entries(&self, rt: &HostRuntime) -> io::Result<()>;
 }
 
-impl TellsEntries for SlotHost {}
-
-impl TellsEntries for HeapHost {}
-
-impl TellsEntries for StripHost<'_> {
+// Only a strip has entries.
+impl TellsEntries for ToolHost<'_> {
     fn tell_entries(&self, rt: &HostRuntime) -> io::Result<()> {
-        println!(rt; "{}", Entries(self.entries()))
+        match self {
+            AnyHost::Strip(host) => println!(rt; "{}", Entries(host.entries())),
+            _ => println!(rt; "unmade"),
+        }
     }
 }
 
