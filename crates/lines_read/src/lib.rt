@@ -41,6 +41,13 @@ mod tests {
             return assert!(rt; false, "caps");
         };
         assert_eq!(rt; capacities.as_slice(), [4, 5].as_slice());
+        let Ok(Command::StripHost { count, entries }) = Command::of_kind(
+            HostKind::Strip,
+            &mut Words::new(rt.alloc(), b"3 65536"),
+        ) else {
+            return assert!(rt; false, "strip");
+        };
+        assert_eq!(rt; (count, entries), (3, 65536));
     }
 
     #[test]
@@ -58,6 +65,14 @@ mod tests {
             return assert!(rt; false, "flows");
         };
         assert_eq!(rt; (from, to), (3, 7));
+        let Ok(Some(Command::Script(file))) = Command::parse(rt.alloc(), b"script 0aFf") else {
+            return assert!(rt; false, "script");
+        };
+        assert_eq!(rt; file.as_slice(), [10, 255].as_slice());
+        let Ok(Some(Command::Add(channel, value))) = Command::parse(rt.alloc(), b"add 3 -7") else {
+            return assert!(rt; false, "add");
+        };
+        assert_eq!(rt; (channel, value), (3, -7));
         assert!(rt;
             matches!(Command::parse(rt.alloc(), b"# flows 3 7"), Ok(None)),
             "a line for people"

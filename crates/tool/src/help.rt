@@ -1,7 +1,7 @@
-// The lines that `help` prints, in pieces, since a program with more commands has lines of its own between them.
+// The lines that `help` prints.
 use std::io;
 
-pub const FILES: &[&str] = &[
+const LINES: &[&str] = &[
     "read HEX        how many levels, channels and instructions a file has",
     "show HEX        its channels and the fields of its instructions",
     "split HEX I     its record with index I, channels first",
@@ -14,24 +14,28 @@ pub const FILES: &[&str] = &[
     "                (unmade, where no levels were made)",
     "host slot       a host of 16 channels of capacity 32",
     "host caps CAP ...  a host with a channel of each capacity, 16 at most",
-];
-
-pub const CALLS: &[&str] = &[
+    "host strip COUNT ENTRIES  a host over a list of entries, 65536 at most",
     "put C V         the value V goes to the end of channel C",
     "take C          the oldest value of channel C comes out",
     "count | held C | space C  how many channels, how many values, how many more fit",
-];
-
-pub const UNMADE: &[&str] = &["                (unmade, where no host was made)"];
-
-pub const LAST: &[&str] = &[
+    "entries         every entry of the strip, in use or not",
+    "                (unmade, where no host was made)",
+    "script HEX      the script of the next visit, or of the next plain run",
+    "open | close    a visit with the script, levels and host that were made; its end",
+    "feed C V | collect C  a value goes into channel C of the visit, or comes out of it",
+    "turn | turns K  one turn; K turns, how many answered what, and a checksum",
+    "ask L           the status of the copy at level L, the channel that it lacks, and its own steps",
+    "                (unmade, where script, levels or host were not made)",
+    "plain           a plain run of the script begins: one copy alone, without levels and host",
+    "give C | add C V  channel C of the run is given a list; the value V goes to the end of the list",
+    "step | copy     one step of the run; its next instruction, registers and positions",
+    "                (unmade, where no script was made, or no plain run was begun)",
     "help            these lines",
     "HEX is hex digits, or - for no bytes; a line that begins with # is left out",
 ];
 
-// Prints the lines of each piece.
-pub fn tell_pieces(rt: &HostRuntime, pieces: &[&[&str]]) -> io::Result<()> {
-    for line in pieces.iter().copied().flatten() {
+pub fn help(rt: &HostRuntime) -> io::Result<()> {
+    for line in LINES {
         rt.println(*line)?;
     }
     Ok(())

@@ -1,13 +1,32 @@
-// Hosts, and what can be shown of them.
-use console::command::Command as Plain;
+// The hosts that the tool can make, and what can be shown of them.
+use console::command::Command;
+use host::calls::Host;
 use own_host::lanes::HeapHost;
 use page::slots::SlotHost;
-use session_console::command::Command;
 use std::{fmt, io};
 use strip::entry::Entry;
 use strip::strips::StripHost;
 use text::error::LineError;
-use tool::hosted::heap_host;
+
+// The capacity of each channel of the slot host.
+pub const SLOT_CAPACITY: usize = 32;
+
+// Capacities with commas between them. A struct of one field: a crate may not implement `Display` for a slice.
+#[derive(Clone, Copy)]
+pub struct Capacities<'a>(pub &'a [u16]);
+
+impl fmt::Display for Capacities<'_> {
+    fn fmt<W: fmt::Write>(&self, f: &mut fmt::Formatter<W>) -> fmt::Result {
+        let [first, rest @ ..] = self.0 else {
+            return f.write_str("-");
+        };
+        write!(f, "{first}")?;
+        for capacity in rest {
+            write!(f, ",{capacity}")?;
+        }
+        Ok(())
+    }
+}
 
 // A host to be, with the memory that it needs.
 #[derive(Drop)]
@@ -23,6 +42,26 @@ pub enum NewHost {
         count: usize,
         entries: Vec<Entry>,
     },
+}
+
+// A host with a channel for each capacity. A command has 16 capacities at most and each is one that a channel can
+// have, so only memory can be wanting.
+fn heap_host(rt: &HostRuntime, capacities: &[u16]) -> Result<HeapHost, LineError> {
+    let mut host = HeapHost::new(rt.alloc());
+    for capacity in capacities {
+        host.add(rt.alloc(), usize::from(*capacity), &[])
+            .map_err(|_| LineError::Memory)?;
+    }
+    Ok(host)
+}
+
+// Prints that a host was made, with how many channels, and the capacity of each.
+pub fn tell_host<H: Host, C: fmt::Display + Copy>(
+    rt: &HostRuntime,
+    host: &H,
+    capacity: C,
+) -> io::Result<()> {
+    println!(rt; "host {} capacity {capacity}", host.count())
 }
 
 // The entries of a strip, those that are not in use too. A struct of one field: a crate may not implement `Display` for a
@@ -74,8 +113,8 @@ fn unused_entries(rt: &HostRuntime, count: usize) -> Result<Vec<Entry>, LineErro
 // The host that a line asks for, if it asks for one.
 pub fn host_asked(rt: &HostRuntime, command: &Command) -> Result<Option<NewHost>, LineError> {
     match command {
-        Command::Plain(Plain::SlotHost) => Ok(Some(NewHost::Slot)),
-        Command::Plain(Plain::OwnHost(capacities)) => Ok(Some(NewHost::Own {
+        Command::SlotHost => Ok(Some(NewHost::Slot)),
+        Command::OwnHost(capacities) => Ok(Some(NewHost::Own {
             host: heap_host(rt, capacities.as_slice())?,
             capacities: capacities.clone()?,
         })),

@@ -1,19 +1,17 @@
 // A session: lines before there is a host, lines to a host, lines to a visit.
-use crate::hosted::{NewHost, TellsEntries, host_asked};
-use crate::lines::command_of;
-use crate::made::Made;
+use console::command::Command;
 use engine::visit::Visit;
 use host::calls::Host;
 use house::any_regime::AnyRegime;
 use page::slots::SlotHost;
-use session_console::command::Command;
-use std::io::{BufReader, Read, Split};
+use std::io::{BufRead, BufReader, Read, Split};
 use std::ops::ControlFlow;
 use std::{fmt, io};
 use strip::entry::Entry;
 use strip::strips::StripHost;
-use tool::hosted::{Capacities, SLOT_CAPACITY, tell_host};
-use tool::inputs::{AnswersLines, lines_of};
+use tool::hosts::{Capacities, NewHost, SLOT_CAPACITY, TellsEntries, host_asked, tell_host};
+use tool::lines::command_of;
+use tool::made::Made;
 
 // No input asks for as many hosts.
 const HOSTS: usize = usize::MAX;
@@ -72,7 +70,7 @@ fn is_call(command: &Command) -> bool {
     matches!(
         command,
         Command::Open
-            | Command::Feed { .. }
+            | Command::Feed(_, _)
             | Command::Collect(_)
             | Command::Turn
             | Command::Turns(_)
@@ -146,9 +144,10 @@ struct Session<R> {
 }
 
 impl<R: Read + Drop> Session<R> {
+    // Lines are bytes: one that is not UTF-8 is a bad line like any other.
     fn new(rt: &HostRuntime, input: R) -> io::Result<Session<R>> {
         Ok(Session {
-            lines: lines_of(rt, input)?,
+            lines: BufReader::new(rt.alloc(), input)?.split(rt.alloc(), b'\n'),
             made: Made::default(),
         })
     }
@@ -205,22 +204,17 @@ impl<R: Read + Drop> Session<R> {
     }
 }
 
-// A session for each input, and nothing that stays from one to the next.
-#[derive(Clone, Copy)]
-pub struct Sessions;
-
-impl AnswersLines for Sessions {
-    fn answer_lines<R: Read + Drop>(&mut self, rt: &HostRuntime, input: R) -> io::Result<()> {
-        let mut session = Session::new(rt, input)?;
-        let mut next = session.run(rt, Unhosted)?;
-        // Counted, since the check wants to see that a loop ends, and no iterator gives the hosts: each is asked for by a
-        // line to the one before.
-        for _ in 0..HOSTS {
-            let Some(host) = next else {
-                return Ok(());
-            };
-            next = session.serve_new(rt, host)?;
-        }
-        Ok(())
+// Answers the lines of an input. Each input is a session of its own, and nothing stays from one to the next.
+pub fn answer_lines<R: Read + Drop>(rt: &HostRuntime, input: R) -> io::Result<()> {
+    let mut session = Session::new(rt, input)?;
+    let mut next = session.run(rt, Unhosted)?;
+    // Counted, since the check wants to see that a loop ends, and no iterator gives the hosts: each is asked for by a line
+    // to the one before.
+    for _ in 0..HOSTS {
+        let Some(host) = next else {
+            return Ok(());
+        };
+        next = session.serve_new(rt, host)?;
     }
+    Ok(())
 }

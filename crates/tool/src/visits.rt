@@ -1,4 +1,5 @@
 // A visit and the calls on it.
+use crate::tell::{refuse, tell, tell_done};
 use engine::visit::Visit;
 use host::calls::Host;
 use house::any_regime::AnyRegime;
@@ -6,7 +7,6 @@ use meaning::answers::{Act, Moved};
 use refusal::Refusal;
 use std::{fmt, io};
 use text::number::capped_byte;
-use tool::tell::{refuse, tell, tell_done};
 
 // What a copy did, in words. A struct of one field: a crate may not implement `Display` for a type of another crate.
 #[derive(Clone, Copy)]
