@@ -8,7 +8,7 @@ use Rattle.std.proofs.lemmas.Bool.{cases_lt}
 use Rattle.regime.specs.Order.{Partial, partial_prop, Lawful}
 use Rattle.regime.proofs.Turns.{own_turn_lawful}
 use Rattle.class.specs.Marks.{no_bit}
-use Rattle.house.specs.Rows.{told, mapped, Accepted, RowClear, Clear, Itself, OneWay, OneWayFrom, Onward, OnwardFrom}
+use Rattle.house.specs.Rows.{told, mapped, Accepted, RowClear, Clear}
 
 -- that flow is an order can be shown in one way only
 ordered_prop : (n : ℕ) (flows : ℕ → ℕ → Bool) → IsProp (Partial n flows)
@@ -20,16 +20,6 @@ accepted n rows h = ∥∥₁_elim h (hlevel (props, ordered_prop n (told rows))
 
 pub mapped_lawful : (n : ℕ) (rows : List ℕ) → Accepted n rows → Lawful (mapped n rows)
 mapped_lawful n rows h = own_turn_lawful n (told rows) h.0 h.1 h.2
-
--- the four judgements together are the laws
-pub partial_from : (n : ℕ) (rows : List ℕ) → Clear n rows → Itself n rows → OneWay n rows → Onward n rows → Partial n (told rows)
-unfolding OneWayFrom OnwardFrom
-partial_from n rows clear itself one on = record {
-  inside = clear;
-  to_itself = itself;
-  one_way = λ a b e f. let w = clear a b e in one a w.0 b w.1 e f;
-  onward = λ a b c e f. let w = clear a b e in on a w.0 b w.1 c (clear b c f).1 e f;
-}
 
 -- past the 16 rows nothing is told
 pub clear_from : (n : ℕ) (rows : List ℕ) → length rows ≡ 16 → ((b : ℕ) → b < 16 → RowClear n rows b) → Clear n rows
