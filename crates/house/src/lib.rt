@@ -8,9 +8,9 @@ pub use any_host::hosts;
 // Named one by one, as in the package below: a `pub use` has no glob, and names of a whole crate would lie one deeper, as
 // `house::class::Visit`.
 pub use class::{
-    Act, Did, Fault, Host, Moved, Part, PlainRun, ReadySet, Record, Refusal, Regime, Script,
-    Standing, Status, Visit, compartments, ladder, parts, read_script, slots, split_record,
-    write_script,
+    Act, Did, Fault, Flaw, Host, Moved, Part, PlainRun, ReadySet, Record, Refusal, Regime, Replica,
+    Script, Standing, Status, Visit, compartments, encoded_length, ladder, parts, read_script,
+    slots, split_record, write_script,
 };
 pub use strip::entry::Entry;
 pub use strip::strips;

@@ -5,6 +5,8 @@
 pub mod ladder;
 pub mod slots;
 
+// All that the public calls' signatures name, so that a maker needs no other crate.
+pub use copies::replica::Replica;
 pub use engine::visit::Visit;
 pub use host::calls::Host;
 pub use meaning::answers::{Act, Moved, Standing, Status};
@@ -12,9 +14,9 @@ pub use preview::acts::Did;
 pub use preview::plain_run::PlainRun;
 pub use reader::file::read_script;
 pub use reader::split::{Record, split_record};
-pub use refusal::{Fault, Part, Refusal};
+pub use refusal::{Fault, Flaw, Part, Refusal};
 pub use regime::ready::ReadySet;
 pub use regime::rules::Regime;
 pub use script::accepted::Script;
 pub use script::parts;
-pub use writer::file::write_script;
+pub use writer::file::{encoded_length, write_script};
