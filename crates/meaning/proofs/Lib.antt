@@ -13,5 +13,7 @@ pub mod Limiting
 pub mod Listed
 pub mod Lists
 pub mod Outcomes
+pub mod Sighting
 pub mod Soundness
 pub mod Stepping
+pub mod Tabling

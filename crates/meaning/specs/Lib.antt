@@ -6,4 +6,6 @@ pub mod Numbers
 pub mod Programs
 pub mod Promises
 pub mod Rules
+pub mod Sights
+pub mod Tables
 pub mod Visits

@@ -3,6 +3,8 @@ ghost use Rattle.meaning.specs.Arithmetic.{Division};
 ghost use Rattle.meaning.specs.Programs.{EveryProgramSound};
 ghost use Rattle.meaning.specs.Promises.{Kept};
 ghost use Rattle.meaning.specs.Rules.{Inputs, OneRule};
+ghost use Rattle.meaning.specs.Sights.{EverySight, EveryMove};
+ghost use Rattle.meaning.specs.Tables.{EveryPlan, EveryReply, EveryReadiness, EveryBeginning};
 
 // What is promised of every visit holds of every log of calls.
 #[tactic(auto, using(crate::proofs::Soundness::every_sound))]
@@ -22,4 +24,20 @@ pub fn arithmetic()
 pub fn inputs()
     ensures given { Inputs }
     ensures only { OneRule }
+{}
+
+// The words of secrecy and progress say what they are meant to: what a level sees of a log it sees of each call.
+#[tactic(auto, using(crate::proofs::Sighting::every_move))]
+pub fn sights()
+    ensures seen { EverySight }
+    ensures moved { EveryMove }
+{}
+
+// Plans and replies are rows of their tables, and visits begin as they are said to.
+#[tactic(auto, using(crate::proofs::Tabling::every_plan, crate::proofs::Tabling::every_reply, crate::proofs::Tabling::every_readiness, crate::proofs::Tabling::every_beginning))]
+pub fn tables()
+    ensures plans { EveryPlan }
+    ensures replies { EveryReply }
+    ensures ready { EveryReadiness }
+    ensures begins { EveryBeginning }
 {}
