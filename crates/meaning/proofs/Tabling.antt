@@ -9,13 +9,13 @@ use Rattle.meaning.specs.Arithmetic.{is_zero}
 use Rattle.meaning.specs.Copies.{Copy, nth, go_to}
 use Rattle.meaning.specs.Programs.{instruction_at}
 use Rattle.meaning.specs.Rules.{Gives}
-use Rattle.meaning.specs.Tables.{Next, Plans, past_the_end, skips, sets, computes, jumps, jumps_not, stops, defaults, reuses, takes, wants_value, withholds, writes, wants_space, EveryPlan, Fit, Replies, levels_differ, channels_lack, feeds_none, feeds_out, feeds_full, feeds, collects_none, collects_in, collects_empty, collects, spent, moves_nobody, moves, moves_unready, asks_none, asks_ready, asks_value, asks_space, asks_ended, EveryReply, EveryReadiness, EveryBeginning}
+use Rattle.meaning.specs.Tables.{Next, Plans, past_the_end, skips, sets, computes, jumps, jumps_not, stops, defaults, reuses, takes, wants_value, withholds, writes, wants_space, EveryPlan, Fit, Replies, levels_differ, channels_lack, feeds_none, feeds_out, feeds_full, feeds, collects_none, collects_in, collects_empty, collects, spent, moves_nobody, moves, moves_unready, asks_none, asks_ready, asks_value, asks_space, asks_ended, EveryReply, EveryReadiness, EveryChange, EveryBeginning}
 use Rattle.meaning.specs.Visits.{Frame, State, level_of, outward, known, has_space, Got, default, again, fresh, waits, gets, read_plan, write_plan, plan_do, Plan, go, lacks_value, lacks_space, ended, plan, status, is_ready, choice, same_levels, enough_channels, feeding, collecting, moving, picked, turning, asking, serve, admit}
 use Rattle.meaning.specs.declared.answers.Act.{Act}
 use Rattle.meaning.specs.declared.answers.Act.TheVariants.{Inner}
 use Rattle.meaning.proofs.Hearing.{every_in}
 use Rattle.meaning.proofs.Listed.{nth_empty}
-use Rattle.meaning.proofs.Lists.{nth_first}
+use Rattle.meaning.proofs.Lists.{nth_first, with_at_here, with_at_other}
 
 -- a value that is zero by its test is 0, and else it is not
 zero_is : (a : ℤ) → is_zero a ≡ true → a ≡ pos 0
@@ -128,6 +128,24 @@ every_readiness f s a =
           let p = and_parts (ltb a f.script.levels) (is_ready (status (plan f s a))) e in
           let g = goes_on (plan f s a) p.1 in (ltb-true a f.script.levels p.0, g.0, g.1, g.2);
     }
+
+-- changes change what they say, and nothing else
+pub every_change : EveryChange
+every_change s a act c = (
+  record {
+    assign_sets = λ t v. (refl, with_at_here c.registers t v);
+    assign_keeps = λ t v. (with_at_other c.registers t v, refl);
+    further_moves = λ k. with_at_here c.positions k (suc (c.positions k));
+    further_keeps = λ k. (with_at_other c.positions k (suc (c.positions k)), refl, refl);
+    goes_to = λ i. (refl, refl, refl);
+    goes_on = refl;
+  },
+  record {
+    acts_on = (with_at_here s.copy a c, with_at_here s.steps a (suc (s.steps a)), refl);
+    acts_alone = λ j nay. (with_at_other s.copy a c j nay, with_at_other s.steps a (suc (s.steps a)) j nay);
+    counts = refl;
+  },
+)
 
 -- and every visit begins alike
 pub every_beginning : EveryBeginning

@@ -1,6 +1,6 @@
 -- What a copy does next, and what each call answers and leaves, row by row: the laws above `plan` and `respond`.
 -- Assumes nothing.
-use Rattle.std.specs.Prelude.{◌≡◌, ℕ, ◌%◌, ◌<◌, ◌≤◌, true, false, List, [], ◌∷◌, ◌++◌, length, ℤ, pos, Some, None, Option, ◌≢◌}
+use Rattle.std.specs.Prelude.{◌≡◌, ℕ, suc, ◌%◌, ◌<◌, ◌≤◌, true, false, List, [], ◌∷◌, ◌++◌, length, ℤ, pos, Some, None, Option, ◌≢◌}
 use Rattle.refusal.specs.declared.Refusal.TheVariants.{Levels, Channels, Channel, Direction, Level, Full, Empty, Spent}
 use Rattle.script.specs.declared.parts.Instruction.{Instruction}
 use Rattle.script.specs.declared.parts.Instruction.TheVariants.{Skip, Set, Compute, Jump, Input, Output, Stop}
@@ -97,6 +97,26 @@ pub record Readiness (f : Frame) (s : State) (a : ℕ) : Type 0 where
 
 abbrev pub EveryReadiness : Type 0
 EveryReadiness = (f : Frame) (s : State) (a : ℕ) → Readiness f s a
+
+-- What the words for a change of a copy say: what is set, and what stays.
+pub record CopyChanges (c : Copy) : Type 0 where
+  pub assign_sets : (t : ℕ) (v : ℤ) → ((assign c t v).next ≡ suc c.next) × ((assign c t v).registers t ≡ v)
+  pub assign_keeps : (t : ℕ) (v : ℤ) → ((i : ℕ) → i ≢ t → (assign c t v).registers i ≡ c.registers i) × ((assign c t v).positions ≡ c.positions)
+  pub further_moves : (k : ℕ) → (further c k).positions k ≡ suc (c.positions k)
+  pub further_keeps : (k : ℕ) →
+      ((j : ℕ) → j ≢ k → (further c k).positions j ≡ c.positions j) × ((further c k).next ≡ c.next) × ((further c k).registers ≡ c.registers)
+  pub goes_to : (i : ℕ) → ((go_to c i).next ≡ i) × ((go_to c i).registers ≡ c.registers) × ((go_to c i).positions ≡ c.positions)
+  pub goes_on : go_on c ≡ go_to c (suc c.next)
+
+-- And those for a change of a state: by an act of the copy at level a, which then is c; and by one turn more. Which lists
+-- and tapes an act changes follows from conservation and from the promise about tapes.
+pub record StateChanges (s : State) (a : ℕ) (act : Act) (c : Copy) : Type 0 where
+  pub acts_on : ((acted s a act c).copy a ≡ c) × ((acted s a act c).steps a ≡ suc (s.steps a)) × ((acted s a act c).turns ≡ s.turns)
+  pub acts_alone : (j : ℕ) → j ≢ a → ((acted s a act c).copy j ≡ s.copy j) × ((acted s a act c).steps j ≡ s.steps j)
+  pub counts : counted s ≡ record { turns = suc s.turns; copy = s.copy; steps = s.steps; tape = s.tape; lists = s.lists }
+
+abbrev pub EveryChange : Type 0
+EveryChange = (s : State) (a : ℕ) (act : Act) (c : Copy) → CopyChanges c × StateChanges s a act c
 
 -- How a visit begins that is opened with o.
 pub record Begins (o : Opening) : Type 0 where

@@ -4,7 +4,7 @@ ghost use Rattle.meaning.specs.Programs.{EveryProgramSound};
 ghost use Rattle.meaning.specs.Promises.{Kept};
 ghost use Rattle.meaning.specs.Rules.{Inputs, OneRule};
 ghost use Rattle.meaning.specs.Sights.{EverySight, EveryMove};
-ghost use Rattle.meaning.specs.Tables.{EveryPlan, EveryReply, EveryReadiness, EveryBeginning};
+ghost use Rattle.meaning.specs.Tables.{EveryPlan, EveryReply, EveryReadiness, EveryChange, EveryBeginning};
 
 // What is promised of every visit holds of every log of calls.
 #[tactic(auto, using(crate::proofs::Soundness::every_sound))]
@@ -34,10 +34,11 @@ pub fn sights()
 {}
 
 // Plans and replies are rows of their tables, and visits begin as they are said to.
-#[tactic(auto, using(crate::proofs::Tabling::every_plan, crate::proofs::Tabling::every_reply, crate::proofs::Tabling::every_readiness, crate::proofs::Tabling::every_beginning))]
+#[tactic(auto, using(crate::proofs::Tabling::every_plan, crate::proofs::Tabling::every_reply, crate::proofs::Tabling::every_readiness, crate::proofs::Tabling::every_change, crate::proofs::Tabling::every_beginning))]
 pub fn tables()
     ensures plans { EveryPlan }
     ensures replies { EveryReply }
     ensures ready { EveryReadiness }
+    ensures changes { EveryChange }
     ensures begins { EveryBeginning }
 {}
