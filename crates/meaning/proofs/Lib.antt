@@ -13,6 +13,7 @@ pub mod Limiting
 pub mod Listed
 pub mod Lists
 pub mod Outcomes
+pub mod Resulting
 pub mod Sighting
 pub mod Soundness
 pub mod Stepping

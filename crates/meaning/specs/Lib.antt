@@ -5,6 +5,7 @@ pub mod Logs
 pub mod Numbers
 pub mod Programs
 pub mod Promises
+pub mod Results
 pub mod Rules
 pub mod Sights
 pub mod Tables

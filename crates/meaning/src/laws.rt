@@ -2,6 +2,7 @@
 ghost use Rattle.meaning.specs.Arithmetic.{Division};
 ghost use Rattle.meaning.specs.Programs.{EveryProgramSound};
 ghost use Rattle.meaning.specs.Promises.{Kept};
+ghost use Rattle.meaning.specs.Results.{EveryResult};
 ghost use Rattle.meaning.specs.Rules.{Inputs, OneRule};
 ghost use Rattle.meaning.specs.Sights.{EverySight, EveryMove};
 ghost use Rattle.meaning.specs.Tables.{EveryPlan, EveryReply, EveryReadiness, EveryChange, EveryBeginning};
@@ -13,10 +14,11 @@ pub fn promises()
     ensures sound { EveryProgramSound }
 {}
 
-// Division is what it is called, and what is computed fits 32 bits.
-#[tactic(auto, using(crate::proofs::Dividing::division))]
+// Division is what it is called, and what is computed fits 32 bits; and so is every other result what it is called.
+#[tactic(auto, using(crate::proofs::Dividing::division, crate::proofs::Resulting::every_result))]
 pub fn arithmetic()
-    ensures { Division }
+    ensures division { Division }
+    ensures results { EveryResult }
 {}
 
 // An in gives what the rules say, and they say one thing.
