@@ -17,12 +17,14 @@ same_self : (a : ℤ) → same a a ≡ true
 same_self (pos a) = eq-eqb a a refl
 same_self (negsuc a) = eq-eqb a a refl
 
+-- and where it holds they are
 same_means : (a b : ℤ) → same a b ≡ true → a ≡ b
 same_means (pos a) (pos b) e = ap pos (eqb-true a b e)
 same_means (pos a) (negsuc b) e = cc
 same_means (negsuc a) (pos b) e = cc
 same_means (negsuc a) (negsuc b) e = ap negsuc (eqb-true a b e)
 
+-- and where they are not it fails
 apart : (a b : ℤ) → (a ≡ b → ⊥) → same a b ≡ false
 apart a b nay = at_test (same a b) refl
   where

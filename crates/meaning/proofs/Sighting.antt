@@ -16,8 +16,9 @@ log_more : (f : Frame) (s : State) (calls : List Call) (x : Call) → log f s (c
 log_more f s [] x = refl
 log_more f s (y ∷ ys) x = ap (λ (es : Log). (y, (respond f s y).1) ∷ es) (log_more f (respond f s y).0 ys x)
 
--- what is seen of two logs on end, and what is kept of two rows of calls
+-- a script, what a regime answers, and a level l
 module _ (sc : Program) (r : Order) (l : ℕ) where
+  -- of two logs on end l sees what it sees of each
   seen_more : (es ds : Log) → seen sc r l (es ++ ds) ≡ seen sc r l es ++ seen sc r l ds
   seen_more [] ds = refl
   seen_more (e ∷ es) ds = at_test (seen_more es ds) (struck sc r l e.0)
@@ -27,6 +28,7 @@ module _ (sc : Program) (r : Order) (l : ℕ) where
       at_test later true = later
       at_test later false = ap (λ (as_seen : List Answer). shown r l e.1 ∷ as_seen) later
 
+  -- of two rows of calls what is kept of each is kept
   kept_more : (xs ys : List Call) → kept sc r l (xs ++ ys) ≡ kept sc r l xs ++ kept sc r l ys
   kept_more [] ys = refl
   kept_more (x ∷ xs) ys = at_test (kept_more xs ys) (struck sc r l x)
@@ -36,13 +38,15 @@ module _ (sc : Program) (r : Order) (l : ℕ) where
       at_test later true = later
       at_test later false = ap (λ (zs : List Call). x ∷ zs) later
 
+-- an opening, and a level l
 module _ (o : Opening) (l : ℕ) where
-  -- a call is beside l exactly where it is struck
+  -- a call beside l is struck
   beside_struck : (x : Call) → Beside o l x → struck o.script o.order l x ≡ true
   beside_struck x (feeds k v h e) = ap₂ (λ (a b : Bool). a && not b) (lt-ltb k o.script.channel_count h) e
   beside_struck x (collects k h e) = ap₂ (λ (a b : Bool). a && not b) (lt-ltb k o.script.channel_count h) e
   beside_struck x (asks a h e) = ap₂ (λ (b c : Bool). b && not c) (lt-ltb a o.script.levels h) e
 
+  -- and a struck call is beside l
   struck_beside : (x : Call) → struck o.script o.order l x ≡ true → Beside o l x
   struck_beside (feed k v) e =
       let p = and_parts (ltb k o.script.channel_count) (not (o.order.flows (level_at o.script k) l)) e in
@@ -55,6 +59,7 @@ module _ (o : Opening) (l : ℕ) where
       let p = and_parts (ltb a o.script.levels) (not (o.order.flows a l)) e in
       asks a (ltb-true a o.script.levels p.0) (not-true (o.order.flows a l) p.1)
 
+  -- so a call that is not beside l is not struck
   not_beside : (x : Call) → (Beside o l x → ⊥) → struck o.script o.order l x ≡ false
   not_beside x nay = at_test (struck o.script o.order l x) refl
     where
@@ -89,7 +94,7 @@ module _ (o : Opening) (l : ℕ) where
   shows (collected v) = (collected v, still (collected v) (λ m e. clash cc))
   shows (told s) = (told s, still (told s) (λ m e. clash cc))
 
-  -- what is seen of one call more, and whether it is kept
+  -- what is seen of one call more is what was seen, and what is seen of its entry
   sees_more : (calls : List Call) (x : Call) → sees l o (calls ++ (x ∷ [])) ≡ sees l o calls ++ seen o.script o.order l ((x, (respond (framed o) (reached o calls) x).1) ∷ [])
   sees_more calls x =
       ap (seen o.script o.order l) (log_more (framed o) (opened o) calls x)

@@ -4,6 +4,7 @@ use Rattle.script.specs.Laws.{word}
 use Rattle.script.specs.declared.parts.Operation.TheVariants.{Add, Subtract, Multiply, Quotient, Remainder, Less, Same}
 use Rattle.meaning.specs.Arithmetic.{quotient_of, remainder_of, result_of}
 
+-- What the instructions give for the values a and b.
 pub record Results (a b : ℤ) : Type 0 where
   -- sums, differences and products that fit 32 bits are what they are called
   pub sum : word (a +ℤ b) ≡ true → result_of Add a b ≡ a +ℤ b
@@ -19,5 +20,6 @@ pub record Results (a b : ℤ) : Type 0 where
   pub equal : a ≡ b → result_of Same a b ≡ pos 1
   pub unequal : a ≢ b → result_of Same a b ≡ pos 0
 
+-- the same of any two values
 abbrev pub EveryResult : Type 0
 EveryResult = (a b : ℤ) → Results a b

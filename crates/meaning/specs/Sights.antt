@@ -42,6 +42,7 @@ pub record Sights (o : Opening) (l : ℕ) : Type 0 where
   -- a host with as many channels, alike in all that flows to l, makes an opening that is begun alike
   pub begun : (h : Channels) → o.host.count ≡ h.count → ((k : ℕ) → HostAlike o l h k) → BegunAlike l o (record { script = o.script; order = o.order; host = h })
 
+-- the same of every opening and every number as level
 abbrev pub EverySight : Type 0
 EverySight = (o : Opening) (l : ℕ) → Sights o l
 

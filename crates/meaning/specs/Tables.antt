@@ -95,6 +95,7 @@ pub record Readiness (f : Frame) (s : State) (a : ℕ) : Type 0 where
   pub goes : (act : Act) (c : Copy) → a < f.script.levels → plan f s a ≡ go act c → ready f s a ≡ true
   pub only : ready f s a ≡ true → (a < f.script.levels) × (act : Act) × (c : Copy) × (plan f s a ≡ go act c)
 
+-- the same in every state and of every number as level
 abbrev pub EveryReadiness : Type 0
 EveryReadiness = (f : Frame) (s : State) (a : ℕ) → Readiness f s a
 
@@ -115,6 +116,7 @@ pub record StateChanges (s : State) (a : ℕ) (act : Act) (c : Copy) : Type 0 wh
   pub acts_alone : (j : ℕ) → j ≢ a → ((acted s a act c).copy j ≡ s.copy j) × ((acted s a act c).steps j ≡ s.steps j)
   pub counts : counted s ≡ record { turns = suc s.turns; copy = s.copy; steps = s.steps; tape = s.tape; lists = s.lists }
 
+-- the same of every copy and state, every level and every act
 abbrev pub EveryChange : Type 0
 EveryChange = (s : State) (a : ℕ) (act : Act) (c : Copy) → CopyChanges c × StateChanges s a act c
 
@@ -128,5 +130,6 @@ pub record Begins (o : Opening) : Type 0 where
   pub tapes : (k : ℕ) → (opened o).tape k ≡ []
   pub lists : (opened o).lists ≡ o.host.list
 
+-- the same of every opening
 abbrev pub EveryBeginning : Type 0
 EveryBeginning = (o : Opening) → Begins o
