@@ -13,5 +13,8 @@ pub mod Limiting
 pub mod Listed
 pub mod Lists
 pub mod Outcomes
+pub mod Resulting
+pub mod Sighting
 pub mod Soundness
 pub mod Stepping
+pub mod Tabling

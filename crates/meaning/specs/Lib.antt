@@ -5,5 +5,8 @@ pub mod Logs
 pub mod Numbers
 pub mod Programs
 pub mod Promises
+pub mod Results
 pub mod Rules
+pub mod Sights
+pub mod Tables
 pub mod Visits
