@@ -1,6 +1,7 @@
 #!/bin/sh
 # Builds crates/speed and the plain Rust program, runs them in turn, and prints for each row the best time of both per
-# turn (or file), turns (or files) per second, and the ratio. The results of both must be the same.
+# turn (or file), turns (or files) per second, and the ratio; then how the time of a turn grows with the levels: 16 levels
+# against one, divided by 16, so that 1 says that it grows as the levels do. The results of both must be the same.
 # Usage: bench/run.sh [RUNS]      (RUNS of each program, 5 if not said)
 set -eu
 cd "$(dirname "$0")/.."
@@ -35,5 +36,13 @@ awk '
             r = order[i]
             n = count[r]
             printf "%-32s %12.1f %12.1f %14.0f %14.0f %6.2f\n", r, a[r] / n, b[r] / n, n * 1e9 / a[r], n * 1e9 / b[r], a[r] / b[r]
+        }
+        printf "\n%-32s %12s %12s\n", "time at 16 levels to 1, by 16", "rattle", "rust"
+        for (i = 1; i <= rows; i++) {
+            one = order[i]
+            top = one
+            if (!sub(/ 1$/, " 16", top)) continue
+            sub(/ 1$/, "", one)
+            printf "%-32s %12.2f %12.2f\n", one, a[top] / a[one " 1"] / 16, b[top] / b[one " 1"] / 16
         }
     }' "$out/speed.times" "$out/visit.times"
