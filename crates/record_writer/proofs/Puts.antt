@@ -1,5 +1,5 @@
 -- What is written where. Assumes nothing.
-use Rattle.std.proofs.Common.{◌≡◌, ℕ, ◌+◌, ◌-◌, ◌≤◌, ◌==◌, Bool, not, if◌then◌else◌, ⊎_elim, List, [], ◌++◌, length, take, drop, refl, sym, ap, ◌∙◌, append_assoc, add_assoc, zero-add, arith, length-append, length-drop}
+use Rattle.std.proofs.Common.{◌≡◌, ℕ, ◌+◌, ◌-◌, ◌%◌, ◌<◌, ◌≤◌, ◌==◌, Bool, not, if◌then◌else◌, ⊎_elim, List, [], ◌∷◌, ◌++◌, length, take, drop, refl, sym, ap, ◌∙◌, append_assoc, add_assoc, zero-add, arith, length-append, length-drop}
 use borrow.Rule.Slice.PartMut.{put_mid}
 use Rattle.std.proofs.lemmas.List.{append-nil, drop-drop, drop_all, take_at, drop_at, length-take-le, take-append-drop}
 use Rattle.std.proofs.lemmas.Bool.{cases_Bool}
@@ -56,6 +56,24 @@ pub sofar_field : (p : ℕ) (a old : List ℕ) (at : ℕ) (new : List ℕ) (w v 
 sofar_field p a old at new w v t bs at' new' h s e i there bytes =
     let same = field_there w v t bs there bytes in
     sofar_more p a old at new (field_of w v) at' new' h s (e ∙ ap (λ l. at + length l) same) (i ∙ ap (λ l. written at l new) same)
+
+-- a byte that is written where it is not 0
+abbrev byte_there : ℕ → List ℕ
+byte_there v = if not (v == 0) then v ∷ [] else []
+
+-- a byte is the one byte that its number has
+one_byte : (v : ℕ) → v < 256 → v ∷ [] ≡ bytes_of 1 v
+one_byte v h = let low : v % 256 ≡ v = omega arith in sym (ap (λ k. k ∷ []) low)
+
+-- and such a byte more
+sofar_byte : (p : ℕ) (a old : List ℕ) (at : ℕ) (new : List ℕ) (v at' : ℕ) (new' : List ℕ) → p ≤ length old → v < 256 → Sofar p a old at new → at' ≡ at + length (byte_there v) → new' ≡ written at (byte_there v) new → Sofar p (a ++ field_of 1 v) old at' new'
+sofar_byte p a old at new v at' new' h small s e w = sofar_field p a old at new 1 v (not (v == 0)) (v ∷ []) at' new' h s e w refl (one_byte v small)
+
+-- two such bytes one after another
+pub bytes_written : (p : ℕ) (a b : ℕ) (old : List ℕ) (s : ℕ) (x new : List ℕ) → new ≡ written s (byte_there b) x → s ≡ p + length (byte_there a) → x ≡ written p (byte_there a) old → p ≤ length old → a < 256 → b < 256 → new ≡ written p (field_of 1 a ++ field_of 1 b) old
+bytes_written p a b old s x new lb ea la h fa fb =
+    let one = sofar_byte p [] old p old a s x h fa (sofar_none p old) ea la in
+    (sofar_byte p (field_of 1 a) old s x b (s + length (byte_there b)) new h fb one refl lb).1
 
 -- what stands at the front
 pub front_of : (a old : List ℕ) → take (length a) (written 0 a old) ≡ a

@@ -51,18 +51,28 @@ fn put_field<const N: usize>(room: &mut [u8], at: usize, is_there: bool, field: 
     if is_there { put(room, at, &field) } else { at }
 }
 
+// Two fields of a byte each.
+fn put_bytes(room: &mut [u8], at: usize, first: u8, second: u8) -> usize
+    requires { at + 2 ≤ length room.old }
+    ensures few { result ≤ at + 2 }
+    ensures size { length room.new ≡ length room.old }
+    ensures end { result ≡ at + length (field_of 1 first ++ field_of 1 second) }
+    ensures holds { room.new ≡ written at (field_of 1 first ++ field_of 1 second) room.old }
+{
+    let at = put_field(room, at, first != 0, [first]);
+    put_field(room, at, second != 0, [second])
+}
+
 // The kind of an instruction and its registers, a byte each.
 fn put_registers(room: &mut [u8], at: usize, f: Fields) -> usize
     requires { at + 4 ≤ length room.old }
     ensures few { result ≤ at + 4 }
     ensures size { length room.new ≡ length room.old }
-    ensures end { result ≡ at + length (field_of 1 f.kind ++ (field_of 1 f.target ++ (field_of 1 f.first ++ field_of 1 f.second))) }
-    ensures holds { room.new ≡ written at (field_of 1 f.kind ++ (field_of 1 f.target ++ (field_of 1 f.first ++ field_of 1 f.second))) room.old }
+    ensures end { result ≡ at + length ((field_of 1 f.kind ++ field_of 1 f.target) ++ (field_of 1 f.first ++ field_of 1 f.second)) }
+    ensures holds { room.new ≡ written (at + length (field_of 1 f.kind ++ field_of 1 f.target)) (field_of 1 f.first ++ field_of 1 f.second) (written at (field_of 1 f.kind ++ field_of 1 f.target) room.old) }
 {
-    let at = put_field(room, at, f.kind != 0, [f.kind]);
-    let at = put_field(room, at, f.target != 0, [f.target]);
-    let at = put_field(room, at, f.first != 0, [f.first]);
-    put_field(room, at, f.second != 0, [f.second])
+    let at = put_bytes(room, at, f.kind, f.target);
+    put_bytes(room, at, f.first, f.second)
 }
 
 // The map of a channel record. Each field's bit stands beside the field's name, here and below: a fold over an array of
@@ -110,8 +120,7 @@ impl FileRecord for Channel {
         }
         let code = self.direction.code();
         let at = put(room, 0, &[channel_map(code, self.level)]);
-        let at = put_field(room, at, code != 0, [code]);
-        put_field(room, at, self.level != 0, [self.level])
+        put_bytes(room, at, code, self.level)
     }
 }
 
