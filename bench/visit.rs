@@ -266,6 +266,71 @@ impl Host for SlotHost {
     }
 }
 
+// ---- the strip host
+
+#[derive(Clone, Copy)]
+struct Entry {
+    channel: u8,
+    value: i32,
+}
+
+// All channels in the first `len` of the entries that are lent, in order of arrival, with the number of each beside.
+struct StripHost<'a> {
+    entries: &'a mut [Entry],
+    len: usize,
+    count: u8,
+    capacity: usize,
+    counts: [usize; 16],
+}
+
+impl StripHost<'_> {
+    fn new(entries: &mut [Entry], asked: usize) -> StripHost<'_> {
+        let count = entries.len().min(asked).min(16);
+        let capacity = entries.len().min(512).checked_div(count).unwrap_or(0);
+        StripHost { entries, len: 0, count: count as u8, capacity, counts: [0; 16] }
+    }
+}
+
+impl Host for StripHost<'_> {
+    fn count(&self) -> u8 {
+        self.count
+    }
+
+    fn held(&self, channel: u8) -> Result<usize, Refusal> {
+        if channel >= self.count {
+            return Err(Refusal::Channel);
+        }
+        Ok(self.counts[channel as usize])
+    }
+
+    fn space(&self, channel: u8) -> Result<usize, Refusal> {
+        Ok(self.capacity - self.held(channel)?)
+    }
+
+    fn put(&mut self, channel: u8, value: i32) -> Result<(), Refusal> {
+        if self.held(channel)? >= self.capacity {
+            return Err(Refusal::Full);
+        }
+        self.entries[self.len] = Entry { channel, value };
+        self.len += 1;
+        self.counts[channel as usize] += 1;
+        Ok(())
+    }
+
+    fn take(&mut self, channel: u8) -> Result<i32, Refusal> {
+        if self.held(channel)? == 0 {
+            return Err(Refusal::Empty);
+        }
+        let entries = &mut self.entries[..self.len];
+        let at = entries.iter().position(|entry| entry.channel == channel).ok_or(Refusal::Empty)?;
+        let value = entries[at].value;
+        entries.copy_within(at + 1.., at);
+        self.len -= 1;
+        self.counts[channel as usize] -= 1;
+        Ok(value)
+    }
+}
+
 // ---- visits
 
 #[derive(Clone, Copy)]
@@ -967,8 +1032,8 @@ fn measure<R: Regime + Copy, H: Host>(
     host
 }
 
-fn measure_host<H: Host>(name: &str, turns: u32, mut host: H) {
-    for kind in [Kind::Compute, Kind::Exchange, Kind::Visits] {
+fn measure_host<H: Host>(name: &str, kinds: &[Kind], turns: u32, mut host: H) {
+    for &kind in kinds {
         for marks in 0..5 {
             host = measure((kind, name, "ladder"), turns, Ladder { levels: 1 << marks }, host);
             host = measure((kind, name, "compartments"), turns, Compartments { marks }, host);
@@ -1040,6 +1105,11 @@ fn main() {
     let turns = if env::args().skip(1).any(|word| word == "full") { 1_000_000 } else { 50_000 };
     println!("bytes ladder slots {}", size_of::<Visit<Ladder, SlotHost>>());
     println!("bytes compartments slots {}", size_of::<Visit<Compartments, SlotHost>>());
-    measure_host("slots", turns, SlotHost::new());
+    println!("bytes ladder strip {}", size_of::<Visit<Ladder, StripHost>>());
+    println!("bytes compartments strip {}", size_of::<Visit<Compartments, StripHost>>());
+    measure_host("slots", &[Kind::Compute, Kind::Exchange, Kind::Visits], turns, SlotHost::new());
+    // 16 channels of 32 values each, as on the slot host.
+    let mut entries = [Entry { channel: 0, value: 0 }; 512];
+    measure_host("strip", &[Kind::Compute, Kind::Exchange], turns, StripHost::new(&mut entries, 16));
     measure_files(turns / 200);
 }

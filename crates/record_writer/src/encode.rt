@@ -1,25 +1,14 @@
 // Channels and instructions as records.
-ghost use Rattle.std.specs.Prelude.{◌≡◌, ℕ, ◌+◌, ◌≤◌, ◌==◌, List, [], ◌∷◌, ◌++◌, length, if◌then◌else◌};
+ghost use Rattle.std.specs.Prelude.{◌≡◌, ℕ, ◌+◌, ◌<◌, ◌≤◌, List, [], ◌∷◌, ◌++◌, length, if◌then◌else◌};
 ghost use Rattle.std.proofs.Common.{of_z};
 ghost use Rattle.format.specs.Encoding.{encode_channel, encode_instruction, field_of, field_values, map_of};
-ghost use Rattle.format.specs.Numbers.{number};
 ghost use Rattle.record_writer.specs.Held.{held};
+ghost use Rattle.record_writer.specs.Written.{written};
 
 use crate::buffer::RecordBytes;
 use script::parts::{Channel, Fields, Instruction};
 
 impl RecordBytes {
-    // Nothing yet.
-    fn empty() -> Self
-        ensures none { held result ≡ [] }
-        ensures len { result.len ≡ 0 }
-    {
-        RecordBytes {
-            bytes: [0; 12],
-            len: 0,
-        }
-    }
-
     // The record's bytes.
     pub fn as_slice(&self) -> &[u8]
         ensures { result.now ≡ held self.now }
@@ -34,41 +23,56 @@ impl RecordBytes {
     {
         self.len
     }
+}
 
-    // More bytes at the end.
-    fn append(&mut self, more: &[u8])
-        requires { self.old.len + length more.now ≤ 12 }
-        ensures held { held self.new ≡ held self.old ++ more.now }
-        ensures len { self.new.len ≡ self.old.len + length more.now }
-    {
-        let end = self.len + more.len();
-        self.bytes[self.len..end].copy_from_slice(more);
-        self.len = end;
-    }
+// Bytes from `at` on; the place after them. The writer has a function of its own for it: a public call asks nothing, and
+// this one, asked of every field, would test what is known.
+#[tactic(auto, using(crate::proofs::Puts::put_is, crate::proofs::Puts::length_written))]
+fn put(room: &mut [u8], at: usize, bytes: &[u8]) -> usize
+    requires { at + length bytes.now ≤ length room.old }
+    ensures end { result ≡ at + length bytes.now }
+    ensures size { length room.new ≡ length room.old }
+    ensures holds { room.new ≡ written at bytes.now room.old }
+{
+    let end = at + bytes.len();
+    room[at..end].copy_from_slice(bytes);
+    end
+}
 
-    // A field, low byte first: nothing where it is 0.
-    fn append_field<const N: usize>(&mut self, field: [u8; N])
-        requires { self.old.len + N ≤ 12 }
-        ensures held { held self.new ≡ held self.old ++ (if number field.entry == 0 then [] else field.entry) }
-        ensures len { self.new.len ≤ self.old.len + N }
-    {
-        if field != [0; N] {
-            self.append(&field);
-        }
-    }
+// A field, low byte first, where there is one. Whether there is comes from the number: of its bytes, each would be tested.
+#[tactic(auto, using(crate::proofs::Puts::nothing_written))]
+fn put_field<const N: usize>(room: &mut [u8], at: usize, is_there: bool, field: [u8; N]) -> usize
+    requires { at + N ≤ length room.old }
+    ensures few { result ≤ at + N }
+    ensures size { length room.new ≡ length room.old }
+    ensures end { result ≡ at + length (if is_there then field.entry else []) }
+    ensures holds { room.new ≡ written at (if is_there then field.entry else []) room.old }
+{
+    if is_there { put(room, at, &field) } else { at }
+}
 
-    // The kind of an instruction and its registers, a byte each.
-    #[tactic(auto, using(crate::proofs::Fields::byte_written))]
-    fn append_registers(&mut self, f: Fields)
-        requires { self.old.len + 4 ≤ 12 }
-        ensures held { held self.new ≡ held self.old ++ (field_of 1 f.kind ++ (field_of 1 f.target ++ (field_of 1 f.first ++ field_of 1 f.second))) }
-        ensures len { self.new.len ≤ self.old.len + 4 }
-    {
-        self.append_field([f.kind]);
-        self.append_field([f.target]);
-        self.append_field([f.first]);
-        self.append_field([f.second]);
-    }
+// Two fields of a byte each.
+fn put_bytes(room: &mut [u8], at: usize, first: u8, second: u8) -> usize
+    requires { at + 2 ≤ length room.old }
+    ensures few { result ≤ at + 2 }
+    ensures size { length room.new ≡ length room.old }
+    ensures end { result ≡ at + length (field_of 1 first ++ field_of 1 second) }
+    ensures holds { room.new ≡ written at (field_of 1 first ++ field_of 1 second) room.old }
+{
+    let at = put_field(room, at, first != 0, [first]);
+    put_field(room, at, second != 0, [second])
+}
+
+// The kind of an instruction and its registers, a byte each.
+fn put_registers(room: &mut [u8], at: usize, f: Fields) -> usize
+    requires { at + 4 ≤ length room.old }
+    ensures few { result ≤ at + 4 }
+    ensures size { length room.new ≡ length room.old }
+    ensures end { result ≡ at + length ((field_of 1 f.kind ++ field_of 1 f.target) ++ (field_of 1 f.first ++ field_of 1 f.second)) }
+    ensures holds { room.new ≡ written (at + length (field_of 1 f.kind ++ field_of 1 f.target)) (field_of 1 f.first ++ field_of 1 f.second) (written at (field_of 1 f.kind ++ field_of 1 f.target) room.old) }
+{
+    let at = put_bytes(room, at, f.kind, f.target);
+    put_bytes(room, at, f.first, f.second)
 }
 
 // The map of a channel record. Each field's bit stands beside the field's name, here and below: a fold over an array of
@@ -98,34 +102,50 @@ pub trait FileRecord: Copy {
     // The record as the file has it.
     ghost encoded: { Self → List ℕ };
 
-    fn to_bytes(self) -> RecordBytes
-        ensures { held result ≡ encoded self };
+    // Writes the record to the front of the room and answers how many bytes it has; what stands past it stays. A room of
+    // fewer than 12 bytes, the most that a record has, stays as it is.
+    fn write(self, room: &mut [u8]) -> usize
+        ensures few { result ≤ 12 }
+        ensures end { 12 ≤ length room.old → result ≡ length (encoded self) }
+        ensures holds { 12 ≤ length room.old → room.new ≡ written 0 (encoded self) room.old }
+        ensures kept { length room.old < 12 → room.new ≡ room.old };
 }
 
 impl FileRecord for Channel {
     ghost encoded = { encode_channel };
 
-    fn to_bytes(self) -> RecordBytes {
+    fn write(self, room: &mut [u8]) -> usize {
+        if room.len() < 12 {
+            return 0;
+        }
         let code = self.direction.code();
-        let mut record = RecordBytes::empty();
-        record.append(&[channel_map(code, self.level)]);
-        record.append_field([code]);
-        record.append_field([self.level]);
-        record
+        let at = put(room, 0, &[channel_map(code, self.level)]);
+        put_bytes(room, at, code, self.level)
     }
 }
 
 impl FileRecord for Instruction {
     ghost encoded = { encode_instruction };
 
-    fn to_bytes(self) -> RecordBytes {
+    fn write(self, room: &mut [u8]) -> usize {
+        if room.len() < 12 {
+            return 0;
+        }
         let f = self.fields();
-        let mut record = RecordBytes::empty();
-        record.append(&[instruction_map(f)]);
-        record.append_registers(f);
-        record.append_field(f.number.to_le_bytes());
-        record.append_field(f.place.to_le_bytes());
-        record.append_field([f.channel]);
-        record
+        let at = put(room, 0, &[instruction_map(f)]);
+        let at = put_registers(room, at, f);
+        let at = put_field(room, at, f.number != 0, f.number.to_le_bytes());
+        let at = put_field(room, at, f.place != 0, f.place.to_le_bytes());
+        put_field(room, at, f.channel != 0, [f.channel])
     }
+}
+
+// The record in bytes of its own.
+#[tactic(auto, using(crate::proofs::Puts::front_of))]
+pub fn to_bytes<R: FileRecord>(from: R) -> RecordBytes
+    ensures { held result ≡ R.FileRecord.encoded from }
+{
+    let mut bytes = [0; 12];
+    let len = from.write(&mut bytes);
+    RecordBytes { bytes, len }
 }

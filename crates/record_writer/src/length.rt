@@ -4,7 +4,7 @@ ghost use Rattle.std.specs.List.{flat_map};
 ghost use Rattle.script.specs.Model.{model_of};
 ghost use Rattle.format.specs.Encoding.{channel_start, encode, instruction_start};
 
-use crate::encode::FileRecord;
+use crate::encode::{FileRecord, to_bytes};
 use script::accepted::Script;
 
 // How many bytes records have one after another.
@@ -13,7 +13,7 @@ fn records_length<R: FileRecord>(records: &[R]) -> usize
     requires { length records.now ≤ 256 }
     ensures { result ≡ length (flat_map R.FileRecord.encoded records.now) }
 {
-    records.iter().map(|record| record.to_bytes().len()).sum()
+    records.iter().map(|record| to_bytes(*record).len()).sum()
 }
 
 // The first `count` of them, or all where there are fewer.

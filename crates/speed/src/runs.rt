@@ -126,17 +126,18 @@ fn measure_task<H: Host + Drop>(rt: &HostRuntime, task: Task<'_>, host: H) -> an
     Ok(host)
 }
 
-// Every load over this host.
+// Loads of these kinds over this host.
 pub fn measure_host<H: Host + Drop>(
     rt: &HostRuntime,
     name: &str,
+    kinds: &[Kind],
     turns: usize,
     host: H,
 ) -> anyhow::Result<()> {
     let mut host = host;
-    for kind in [Kind::Compute, Kind::Exchange, Kind::Visits] {
+    for kind in kinds {
         let task = Task {
-            kind,
+            kind: *kind,
             host: name,
             turns,
         };

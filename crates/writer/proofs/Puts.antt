@@ -1,42 +1,10 @@
 -- What is written where. Assumes nothing.
-use Rattle.std.proofs.Common.{◌≡◌, ℕ, ◌+◌, ◌<◌, ◌≤◌, List, [], ◌++◌, length, get_or, take, drop, sym, ap, ◌∙◌, subst, append_assoc, add_assoc, arith, length-append, length-drop}
-use borrow.Rule.Slice.PartMut.{put_mid}
+use Rattle.std.proofs.Common.{◌≡◌, ℕ, ◌+◌, ◌<◌, ◌≤◌, List, [], ◌++◌, length, get_or, take, sym, ap, ◌∙◌, subst, arith}
 use Rattle.std.specs.List.{flat_map}
 use Rattle.std.proofs.lemmas.List.Folds.{length-flat_map-take}
-use Rattle.std.proofs.lemmas.List.{drop-drop, take_at, drop_at, length-take-le, take_more, flat_map_more, take_all}
-use Rattle.writer.specs.Written.{written}
-
--- what a copy into a slice leaves
-pub put_is : (p k : ℕ) (old ys zs : List ℕ) → ys ≡ zs → k ≡ length zs → put_mid p k old ys ≡ written p zs old
-put_is p k old ys zs e l = simp (e, l, drop-drop)
-
--- one part after another is both at once
-pub written_more : (p : ℕ) (a b old : List ℕ) → p ≤ length old → written (p + length a) b (written p a old) ≡ written p (a ++ b) old
-written_more p a b old h =
-    let front = length-take-le p old h in
-    let whole : length (take p old ++ a) ≡ p + length a = simp (length-append, front) in
-    let rest = drop (p + length a) old in
-    let same : written p a old ≡ (take p old ++ a) ++ rest = sym (append_assoc (take p old) a rest) in
-    let head : take (p + length a) ((take p old ++ a) ++ rest) ≡ take p old ++ a = take_at _ rest _ whole in
-    let sum : p + length a + length b ≡ p + length (a ++ b) = simp (length-append, add_assoc) in
-    let tail : drop (p + length a + length b) ((take p old ++ a) ++ rest) ≡ drop (p + length (a ++ b)) old =
-    sym (drop-drop (length b) (p + length a) _) ∙ ap (drop (length b)) (drop_at _ rest _ whole) ∙ drop-drop (length b) (p + length a) old ∙ ap (λ n. drop n old) sum in
-    ap (written (p + length a) b) same ∙ ap (λ l. l ++ (b ++ drop (p + length a + length b) ((take p old ++ a) ++ rest))) head ∙ ap (λ l. (take p old ++ a) ++ (b ++ l)) tail ∙ simp append_assoc
-
--- a buffer stays as long as it was
-pub length_written : (p : ℕ) (a old : List ℕ) → p + length a ≤ length old → length (written p a old) ≡ length old
-length_written p a old h =
-    let front = length-take-le p old (omega arith) in
-    simp (length-append, front, length-drop) (omega arith)
-
--- bytes stand from p on, and at is the place after them
-abbrev pub Sofar : ℕ → List ℕ → List ℕ → ℕ → List ℕ → Type 0
-Sofar p bytes old at new = (at ≡ p + length bytes) × (new ≡ written p bytes old)
-
--- and more bytes after them
-pub sofar_more : (p : ℕ) (a old : List ℕ) (at : ℕ) (new b : List ℕ) (at' : ℕ) (new' : List ℕ) → p ≤ length old → Sofar p a old at new → at' ≡ at + length b → new' ≡ written at b new → Sofar p (a ++ b) old at' new'
-sofar_more p a old at new b at' new' h s e w =
-    (simp length-append (omega (arith, s.0)), w ∙ simp (s.0, s.1) (written_more p a b old h))
+use Rattle.std.proofs.lemmas.List.{take_more, flat_map_more, take_all}
+use Rattle.record_writer.specs.Written.{written}
+use Rattle.record_writer.proofs.Puts.{Sofar, sofar_more, length_written}
 
 module _ {X : Type 0} (enc : X → List ℕ) (xs : List X) where
   -- the records up to i and then record i

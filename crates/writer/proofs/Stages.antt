@@ -8,7 +8,7 @@ use Rattle.script.specs.Model.{model_of}
 use Rattle.script.proofs.Held.{channels_held, instructions_held}
 use Rattle.format.specs.Numbers.{bytes_of}
 use Rattle.format.specs.Encoding.{encode_channel, encode_instruction, encode}
-use Rattle.writer.specs.Written.{written}
+use Rattle.record_writer.specs.Written.{written}
 
 -- the four pieces, of the channels and the instructions that count
 module _ (s : Script) (cs : List Channel) (is : List Instruction) (ec : cs ≡ (model_of s).channels) (ei : is ≡ (model_of s).instructions) where

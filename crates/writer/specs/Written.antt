@@ -1,13 +1,9 @@
 -- What a writer answers and leaves. Assumes nothing.
-use Rattle.std.specs.Prelude.{◌≡◌, ℕ, ◌+◌, ◌<◌, ◌≤◌, List, ◌++◌, length, take, drop, Result, MatchResult}
+use Rattle.std.specs.Prelude.{◌≡◌, ℕ, ◌<◌, ◌≤◌, List, ◌++◌, length, drop, Result, MatchResult}
 use Rattle.refusal.specs.declared.Refusal.{Refusal}
 use Rattle.refusal.specs.declared.Refusal.TheVariants as why
 use Rattle.script.specs.declared.accepted.Script.{Script}
 use Rattle.format.specs.Encoding.{encode}
-
--- old, with these bytes over its own from byte p on
-abbrev pub written : ℕ → List ℕ → List ℕ → List ℕ
-written p bytes old = take p old ++ (bytes ++ drop (p + length bytes) old)
 
 -- the file fits, its length is answered, it stands at the front, and what follows it is as it was; or it does not fit,
 -- and all is as it was

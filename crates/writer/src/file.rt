@@ -1,16 +1,17 @@
 // Whole files into a buffer.
 ghost use Rattle.std.specs.Prelude.{◌≡◌, ◌+◌, ◌≤◌, length};
 ghost use Rattle.std.specs.List.{flat_map};
-ghost use Rattle.writer.specs.Written.{Writes, written};
+ghost use Rattle.record_writer.specs.Written.{written};
+ghost use Rattle.writer.specs.Written.{Writes};
 
-use record_writer::encode::FileRecord;
+use record_writer::encode::{FileRecord, to_bytes};
 pub use record_writer::length::encoded_length;
 use refusal::Refusal;
 use script::accepted::Script;
 
 // Writes the bytes from `at` on, and answers the place after them. The place is a number that is carried along: of a rest
 // that is split off again and again in a loop, a proof does not know what the whole buffer holds afterwards.
-#[tactic(auto, using(crate::proofs::Puts::put_is))]
+#[tactic(auto, using(record_writer::proofs::Puts::put_is))]
 fn put(out: &mut [u8], at: usize, bytes: &[u8]) -> usize
     requires { at + length bytes.now ≤ length out.old }
     ensures end { result ≡ at + length bytes.now }
@@ -19,6 +20,20 @@ fn put(out: &mut [u8], at: usize, bytes: &[u8]) -> usize
     let end = at + bytes.len();
     out[at..end].copy_from_slice(bytes);
     end
+}
+
+// Writes a record from `at` on, and answers the place after it. It is written where it shall stand: only where fewer than 12
+// bytes are left, the most that a record has, it is written apart and copied.
+#[tactic(auto, using(record_writer::proofs::Puts::put_at_end))]
+fn put_record<R: FileRecord>(out: &mut [u8], at: usize, item: R) -> usize
+    requires { at + length (R.FileRecord.encoded item) ≤ length out.old }
+    ensures end { result ≡ at + length (R.FileRecord.encoded item) }
+    ensures holds { out.new ≡ written at (R.FileRecord.encoded item) out.old }
+{
+    if out.len() - at < 12 {
+        return put(out, at, to_bytes(item).as_slice());
+    }
+    at + item.write(&mut out[at..])
 }
 
 // Writes the records one after another from `at` on, and answers the place after them.
@@ -30,7 +45,7 @@ fn put_records<R: FileRecord>(out: &mut [u8], at: usize, records: &[R]) -> usize
 {
     let mut end = at;
     for record in records {
-        end = put(out, end, record.to_bytes().as_slice());
+        end = put_record(out, end, *record);
     }
     end
 }

@@ -124,15 +124,17 @@ impl Replica {
         self.assign(target, value)
     }
 
-    // Is there the register that the instruction sets, if it sets one, and a place after the copy's own?
-    fn may_compute(&self, instruction: Instruction) -> bool
-        ensures { result ≡ computes (copy_of self.now) instruction }
+    // The copy goes to that place, where there is one after its own.
+    fn jump(&mut self, next: u16) -> bool
+        ensures answer { result ≡ goes_on (copy_of self.old) }
+        ensures done { goes_on (copy_of self.old) ≡ true → copy_of self.new ≡ go_to (copy_of self.old) next }
+        ensures kept { goes_on (copy_of self.old) ≡ false → self.new ≡ self.old }
     {
-        match instruction {
-            Instruction::Set { target, .. } | Instruction::Compute { target, .. } =>
-                self.may_assign(target),
-            _ => self.next < u16::MAX,
+        if self.next == u16::MAX {
+            return false;
         }
+        self.go_to(next);
+        true
     }
 
     // An instruction that neither takes a value in nor gives one out, in a script that ends at that place.
@@ -141,9 +143,6 @@ impl Replica {
         ensures done { computes (copy_of self.old) instruction ≡ true → copy_of self.new ≡ computed (copy_of self.old) end instruction }
         ensures kept { computes (copy_of self.old) instruction ≡ false → self.new ≡ self.old }
     {
-        if !self.may_compute(instruction) {
-            return false;
-        }
         match instruction {
             Instruction::Skip => self.go_on(),
             Instruction::Set { target, number } => self.assign(target, number),
@@ -160,15 +159,11 @@ impl Replica {
                 if self.register(first) == 0 {
                     self.go_on()
                 } else {
-                    self.go_to(place);
-                    true
+                    self.jump(place)
                 }
             }
-            Instruction::Input { .. } | Instruction::Output { .. } => true,
-            Instruction::Stop => {
-                self.go_to(end);
-                true
-            }
+            Instruction::Input { .. } | Instruction::Output { .. } => self.next < u16::MAX,
+            Instruction::Stop => self.jump(end),
         }
     }
 }

@@ -30,14 +30,13 @@ impl<R: Regime, H: Host> Visit<R, H> {
         ensures host { result ≡ from_host → ((copies_of self.now.course.copies level).positions channel < 64) × (nth (tapes_of self.now.course.tapes channel) ((copies_of self.now.course.copies level).positions channel) ≡ None) }
     {
         let from = self.level_of(channel);
+        // Asked first: where the channel does not flow, nothing is looked up.
+        if !self.regime.flows(from, level) {
+            return Source::Default;
+        }
         let position = self.course.copies.position(level, channel);
         let next = self.course.tapes.value(channel, position);
-        Source::of(
-            self.regime.flows(from, level),
-            position,
-            next,
-            from == level,
-        )
+        Source::of(true, position, next, from == level)
     }
 
     // An in that the host gives its value for, if it holds one.

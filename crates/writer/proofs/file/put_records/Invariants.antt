@@ -1,6 +1,6 @@
 use Rattle.std.proofs.Common.{take}
 use Rattle.std.specs.List.{flat_map}
-use Rattle.writer.proofs.Puts.{Sofar}
+use Rattle.record_writer.proofs.Puts.{Sofar}
 use Rattle.writer.proofs.file.put_records.Given as goal
 
 abbrev pub invariant-loop-record : goal.invariant-loop-record

@@ -2,7 +2,7 @@ use Rattle.std.proofs.Common.{◌≡◌, ◌≤◌, [], ◌∷◌, ◌++◌, len
 use Rattle.std.specs.List.{flat_map}
 use Rattle.format.specs.Numbers.{bytes_of}
 use Rattle.format.specs.Encoding.{encode, encode_channel, encode_instruction}
-use Rattle.writer.proofs.Puts.{Sofar, sofar_more}
+use Rattle.record_writer.proofs.Puts.{Sofar, sofar_more}
 use Rattle.writer.proofs.Stages.{pieces, from_front}
 use Rattle.writer.proofs.file.write_script.Goals as goal
 
