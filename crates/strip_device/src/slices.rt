@@ -3,7 +3,7 @@ ghost use Rattle.std.specs.Prelude.{◌≡◌, ◌+◌, ◌-◌, ◌<◌, ◌≤
 ghost use Rattle.engine.specs.Views.{Serves, frame_of, opening, state_of};
 ghost use Rattle.host.specs.Channels.{IfAccepted, IfRefused};
 ghost use Rattle.meaning.specs.Answers.{collect, collected_by, fed_by, feed, turn, turned_by};
-ghost use Rattle.meaning.specs.Visits.{opened};
+ghost use Rattle.meaning.specs.Visits.{framed, opened};
 ghost use Rattle.strip.specs.Entries.{entries_taken, none};
 ghost use Rattle.strip.specs.Stripped.{channels_of, empty_strip};
 ghost use Rattle.strip_device.specs.Rows.{Refuses};
@@ -21,6 +21,7 @@ pub fn open_on<'a, R: Regime>(
 ) -> Visit<R, StripHost<'a>>
     ensures script { result.script ≡ script }
     ensures regime { result.regime ≡ regime }
+    ensures frame { frame_of R.Regime.order channels_of result ≡ framed (opening script (R.Regime.order regime) (empty_strip script.channel_count (length entries.old))) }
     ensures state { state_of channels_of result ≡ opened (opening script (R.Regime.order regime) (empty_strip script.channel_count (length entries.old))) }
     ensures used { used_by result ≡ 0 }
     ensures entries { entries_of result ≡ entries.old }
