@@ -6,7 +6,7 @@ ghost use Rattle.meaning.specs.Answers.{collect, collected_by, fed_by, feed, tur
 ghost use Rattle.meaning.specs.Visits.{framed, opened};
 ghost use Rattle.strip.specs.Entries.{entries_taken, none};
 ghost use Rattle.strip.specs.Stripped.{channels_of, empty_strip};
-ghost use Rattle.strip_device.specs.Rows.{Refuses};
+ghost use Rattle.strip_device.specs.Rows.{Refuses, feeds};
 ghost use Rattle.strip_device.specs.Slices.{after_turn, copied, entries_of, used_after_turn, used_by, with_row};
 
 use crate::rows::feed_row;
@@ -43,10 +43,13 @@ pub fn hear<R: Regime>(visit: &mut Visit<R, StripHost<'_>>, said: Entry) -> Resu
     visit.feed(said.channel, said.value)
 }
 
-// Values are fed until one is refused: those fed stand in order behind the entries that were in use.
+// Values are fed until one is refused, and nothing else is called: those fed stand in order behind the entries that were in
+// use.
 pub fn hear_all<R: Regime>(visit: &mut Visit<R, StripHost<'_>>, said: &[Entry]) -> usize
     ensures within { result ≤ length said.now }
     ensures stopped { result < length said.now → Refuses (frame_of R.Regime.order channels_of visit.new) (state_of channels_of visit.new) (slice_index_or said.now result none) }
+    ensures frame { frame_of R.Regime.order channels_of visit.new ≡ frame_of R.Regime.order channels_of visit.old }
+    ensures state { state_of channels_of visit.new ≡ after (frame_of R.Regime.order channels_of visit.old) (state_of channels_of visit.old) (feeds (take result said.now)) }
     ensures entries { entries_of visit.new ≡ with_row (used_by visit.old) (take result said.now) (entries_of visit.old) }
     ensures used { used_by visit.new ≡ used_by visit.old + result }
 {
@@ -96,6 +99,7 @@ pub fn keep<R: Regime + Drop>(
     kept: &mut [Entry],
 ) -> usize
     ensures within { result ≤ length said.now }
+    ensures stopped { let o = opening script (R.Regime.order regime) (empty_strip script.channel_count (length entries.old)) in result < length said.now → Refuses (framed o) (reached o (feeds (take result said.now))) (slice_index_or said.now result none) }
     ensures kept { kept.new ≡ copied (with_row 0 (take result said.now) entries.old) kept.old }
 {
     let mut visit = open_on(entries, script, regime);
