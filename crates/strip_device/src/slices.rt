@@ -3,6 +3,7 @@ ghost use Rattle.std.specs.Prelude.{◌≡◌, ◌+◌, ◌-◌, ◌<◌, ◌≤
 ghost use Rattle.engine.specs.Views.{Serves, frame_of, opening, state_of};
 ghost use Rattle.host.specs.Channels.{IfAccepted, IfRefused};
 ghost use Rattle.meaning.specs.Answers.{collect, collected_by, fed_by, feed, turn, turned_by};
+ghost use Rattle.meaning.specs.Logs.{after, reached};
 ghost use Rattle.meaning.specs.Visits.{framed, opened};
 ghost use Rattle.strip.specs.Entries.{entries_taken, none};
 ghost use Rattle.strip.specs.Stripped.{channels_of, empty_strip};
