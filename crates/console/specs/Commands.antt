@@ -53,6 +53,7 @@ pub data Request : Type 0 where
   copy : Request
   help : Request
 
+-- what a command asks for, with files and lists by their bytes and numbers
 abbrev pub request : Command → Request
 request (command.Read f) = read (vec_items f)
 request (command.Show f) = show (vec_items f)
@@ -110,6 +111,7 @@ by_shape shape.Ladder ws = of_number ladder ws
 by_shape shape.Compartments ws = of_number compartments ws
 by_shape shape.Map ws = of_number_and (table_from row_of 16) map ws
 
+-- the levels that the words ask for, the kind first; and the words that are left
 abbrev pub levels_asked : List (List ℕ) → Result (Request × List (List ℕ)) LineError
 levels_asked ws = then (taken (λ w. ok_or (shape_of w) error.Shape) ws) (λ p. by_shape p.0 p.1)
 
@@ -119,6 +121,7 @@ by_kind kind.Slot ws = Ok (slot_host, ws)
 by_kind kind.Caps ws = then (entries_from capacity_of 16 ws) (λ p. Ok (own_host p.0, p.1))
 by_kind kind.Strip ws = of_number_and (taken room_of) strip_host ws
 
+-- the host that the words ask for, the kind first; and the words that are left
 abbrev pub host_asked : List (List ℕ) → Result (Request × List (List ℕ)) LineError
 host_asked ws = then (taken (λ w. ok_or (host_of w) error.Host) ws) (λ p. by_kind p.0 p.1)
 
@@ -163,6 +166,7 @@ abbrev pub by_verb : Option Verb → List (List ℕ) → Result (Request × List
 by_verb None ws = Err error.Unknown
 by_verb (Some v) ws = asked v ws
 
+-- what the command of that name asks for; an error where no command has the name
 abbrev pub named : List ℕ → List (List ℕ) → Result (Request × List (List ℕ)) LineError
 named name = by_verb (verb_of name)
 

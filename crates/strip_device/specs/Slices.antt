@@ -14,6 +14,7 @@ use Rattle.strip.specs.declared.strips.StripHost.{StripHost}
 abbrev pub entries_of : {R : Type 0} → Visit R StripHost → List Entry
 entries_of v = lent v.host
 
+-- how many of the entries are in use, the first of them
 abbrev pub used_by : {R : Type 0} → Visit R StripHost → ℕ
 used_by v = v.host.len
 
@@ -47,6 +48,7 @@ used_after_act n (Defaulted c v) = n
 used_after_act n (Wrote c v) = n + 1
 used_after_act n (Withheld c v) = n
 
+-- how many entries are in use after what a turn answered, where n were
 abbrev pub used_after_turn : ℕ → Result (Option Moved) Refusal → ℕ
 used_after_turn n (Ok None) = n
 used_after_turn n (Ok (Some m)) = used_after_act n m.act
