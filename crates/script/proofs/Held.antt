@@ -8,7 +8,7 @@ use Rattle.script.specs.declared.parts.Channel.{Channel}
 use Rattle.script.specs.declared.parts.Instruction.{Instruction}
 use Rattle.script.specs.declared.parts.Instruction.TheVariants.{Skip, Set, Compute, Jump, Input, Output, Stop}
 use Rattle.script.specs.declared.accepted.Script.{Script}
-use Rattle.script.proofs.Values.{one_value}
+use Rattle.script.specs.EqualScripts.{one_value}
 use Rattle.script.specs.Laws.{blank, same, directed, sound, Below, Sound}
 use Rattle.script.specs.Model.{Model, model_of, EveryScriptAccepted, SameScript}
 use Rattle.script.proofs.Tables.{same_table}

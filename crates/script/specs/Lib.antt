@@ -1,4 +1,6 @@
 pub mod Flaws
+pub mod Equal
+pub mod EqualScripts
 pub mod Equality
 pub mod Fields
 pub mod Judging

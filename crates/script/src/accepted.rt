@@ -10,7 +10,7 @@ use refusal::Refusal;
 // The first `channel_count` channels and the first `instruction_count` instructions count. The slots after them
 // hold the blank record, so that two scripts are equal exactly where they are the same value. The tables are arrays
 // with a count, and no `Vec`: a script is held in fixed memory, copied as it stands, and nothing that is sold allocates.
-#[derive(Clone, Copy, PartialEq, Eq)]
+#[derive(Clone, Copy)]
 pub struct Script {
     pub levels: u8,
     pub channel_count: usize,

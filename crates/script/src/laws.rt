@@ -34,19 +34,19 @@ pub fn equal_fields_are_one_value()
 {}
 
 // And so are two channels.
+#[tactic(auto, using(crate::specs::Equal::same_channel_decides))]
 pub fn equal_channels_are_one_value()
     ensures { TellsApart ⟦<Channel as PartialEq>⟧.eq }
 {}
 
 // And so are two instructions.
+#[tactic(auto, using(crate::specs::Equal::same_instruction_decides))]
 pub fn equal_instructions_are_one_value()
     ensures { TellsApart ⟦<Instruction as PartialEq>⟧.eq }
 {}
 
-// And so are two scripts, since their channels and instructions are.
+// And so are two scripts.
+#[tactic(auto, using(crate::specs::EqualScripts::same_script_decides))]
 pub fn equal_scripts_are_one_value()
     ensures { TellsApart ⟦<Script as PartialEq>⟧.eq }
-{
-    equal_channels_are_one_value();
-    equal_instructions_are_one_value();
-}
+{}

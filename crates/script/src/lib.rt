@@ -5,3 +5,4 @@ pub mod accepted;
 pub mod build;
 pub mod laws;
 pub mod parts;
+pub mod same;

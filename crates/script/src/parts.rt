@@ -1,6 +1,8 @@
 // What a script is made of: channels and instructions.
-ghost use Rattle.std.specs.Prelude.{◌≡◌};
+ghost use Rattle.std.specs.Prelude.{◌≡◌, Decides};
+ghost use Rattle.script.specs.Equal.{same_channel, same_channel_decides, same_instruction, same_instruction_decides};
 ghost use Rattle.script.specs.Kinds.{code_of, kind_of, fields_of};
+ghost use Rattle.std.specs.Cmp as Keys;
 
 // Whether values come in by a channel or go out by it, as a file numbers it.
 #[derive(Clone, Copy, PartialEq, Eq, Debug)]
@@ -18,7 +20,7 @@ impl Direction {
     }
 }
 
-#[derive(Clone, Copy, PartialEq, Eq, Debug)]
+#[derive(Clone, Copy, Debug)]
 pub struct Channel {
     pub direction: Direction,
     pub level: u8,
@@ -32,29 +34,57 @@ impl Channel {
     };
 }
 
-// What is computed from two registers, as a file numbers the instruction kinds.
+// By hand, here and for instructions and scripts: a caller of `==` is told that it decides equality, and a derive tells of
+// no function more than its trait does.
+impl PartialEq for Channel {
+    ghost eq = { same_channel };
+
+    ghost laws = { Keys.partial_equiv_from_equiv (Keys.decided same_channel same_channel_decides) };
+
+    fn eq(&self, other: &Channel) -> bool
+        ensures value { result ≡ same_channel self.now other.now }
+        ensures same { Decides result (self.now ≡ other.now) }
+    {
+        self.direction == other.direction && self.level == other.level
+    }
+}
+
+impl Eq for Channel {
+    ghost laws = { Keys.decided same_channel same_channel_decides };
+}
+
+// What is computed from two registers.
 #[derive(Clone, Copy, PartialEq, Eq, Debug)]
 pub enum Operation {
-    Add = 2,
-    Subtract = 3,
-    Multiply = 4,
-    Quotient = 5,
-    Remainder = 6,
-    Less = 7,
-    Same = 8,
+    Add,
+    Subtract,
+    Multiply,
+    Quotient,
+    Remainder,
+    Less,
+    Same,
 }
 
 impl Operation {
-    // The number of the instruction kind that computes it. By a method, whose name says so; `u8::from(operation)` would not.
+    // The number of the instruction kind that computes it. By a match, and no discriminants: these are the kinds of a file, and
+    // no numbers of the operations.
     pub fn kind(self) -> u8
         ensures { result ≡ kind_of self }
     {
-        self as u8
+        match self {
+            Operation::Add => 2,
+            Operation::Subtract => 3,
+            Operation::Multiply => 4,
+            Operation::Quotient => 5,
+            Operation::Remainder => 6,
+            Operation::Less => 7,
+            Operation::Same => 8,
+        }
     }
 }
 
 // One instruction. A field that its kind does not use does not exist.
-#[derive(Clone, Copy, PartialEq, Eq, Debug)]
+#[derive(Clone, Copy, Debug)]
 pub enum Instruction {
     Skip,
     Set {
@@ -153,4 +183,22 @@ impl Instruction {
             },
         }
     }
+}
+
+impl PartialEq for Instruction {
+    ghost eq = { same_instruction };
+
+    ghost laws = { Keys.partial_equiv_from_equiv (Keys.decided same_instruction same_instruction_decides) };
+
+    // An instruction is known by its fields.
+    fn eq(&self, other: &Instruction) -> bool
+        ensures value { result ≡ same_instruction self.now other.now }
+        ensures same { Decides result (self.now ≡ other.now) }
+    {
+        self.fields() == other.fields()
+    }
+}
+
+impl Eq for Instruction {
+    ghost laws = { Keys.decided same_instruction same_instruction_decides };
 }
