@@ -2,3 +2,4 @@ pub mod Allowed
 pub mod Gathered
 pub mod Hosted
 pub mod Moved
+pub mod Unchanged

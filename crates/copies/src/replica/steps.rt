@@ -77,11 +77,7 @@ impl Replica {
         ensures done { goes_on (copy_of self.old) ≡ true → copy_of self.new ≡ go_on (copy_of self.old) }
         ensures kept { goes_on (copy_of self.old) ≡ false → self.new ≡ self.old }
     {
-        let Some(after) = self.next.checked_add(1) else {
-            return false;
-        };
-        self.next = after;
-        true
+        self.jump(self.next.saturating_add(1))
     }
 
     // The value goes to the register, and the copy goes on.

@@ -1,5 +1,5 @@
 // A copy that counts its own steps. What may not be done changes nothing.
-ghost use Rattle.std.specs.Prelude.{◌≡◌, true, false};
+ghost use Rattle.std.specs.Prelude.{◌≡◌, suc, true, false};
 ghost use Rattle.meaning.specs.Copies.{assign, first, further, go_on, go_to};
 ghost use Rattle.copies.specs.Computed.{computed};
 ghost use Rattle.copies.specs.Held.{Moved, can_assign, can_compute, can_go_on, can_read, can_step, copy_in};
@@ -29,14 +29,23 @@ impl LevelCopy {
         self.steps < u32::MAX
     }
 
-    // The copy goes to an instruction, in one step.
+    // One step more is counted.
+    fn count(&mut self)
+        requires { can_step self.old ≡ true }
+        ensures copy { self.new.copy ≡ self.old.copy }
+        ensures steps { self.new.steps ≡ suc self.old.steps }
+    {
+        self.steps += 1;
+    }
+
+    // The copy goes to an instruction, in one step. The engine goes by `go_on` and `compute`.
     pub(crate) fn go_to(&mut self, next: u16)
         ensures done { can_step self.old ≡ true → Moved self.old self.new (go_to (copy_in self.old) next) }
         ensures kept { can_step self.old ≡ false → self.new ≡ self.old }
     {
         if self.can_step() {
             self.copy.go_to(next);
-            self.steps += 1;
+            self.count();
         }
     }
 
@@ -46,7 +55,7 @@ impl LevelCopy {
         ensures kept { can_go_on self.old ≡ false → self.new ≡ self.old }
     {
         if self.can_step() && self.copy.go_on() {
-            self.steps += 1;
+            self.count();
         }
     }
 
@@ -56,7 +65,7 @@ impl LevelCopy {
         ensures kept { can_assign self.old target ≡ false → self.new ≡ self.old }
     {
         if self.can_step() && self.copy.assign(target, value) {
-            self.steps += 1;
+            self.count();
         }
     }
 
@@ -66,7 +75,7 @@ impl LevelCopy {
         ensures kept { can_read self.old target channel ≡ false → self.new ≡ self.old }
     {
         if self.can_step() && self.copy.read(target, channel, value) {
-            self.steps += 1;
+            self.count();
         }
     }
 
@@ -76,7 +85,7 @@ impl LevelCopy {
         ensures kept { can_compute self.old instruction ≡ false → self.new ≡ self.old }
     {
         if self.can_step() && self.copy.compute(instruction, end) {
-            self.steps += 1;
+            self.count();
         }
     }
 }

@@ -57,7 +57,8 @@ impl Copies {
         self.copies.get(usize::from(level)).map_or(0, |at| at.steps)
     }
 
-    // The copy goes to an instruction, in one step. What may not be done changes nothing, here and below.
+    // The copy goes to an instruction, in one step. What may not be done changes nothing, here and below. The engine does not
+    // call this: its copies go on by `go_on`, and jump and stop by `compute`.
     pub fn go_to(&mut self, level: u8, next: u16)
         ensures done { may_step self.old level ≡ true → Stepped self.old self.new level (go_to (copies_of self.old level) next) }
         ensures kept { may_step self.old level ≡ false → self.new ≡ self.old }

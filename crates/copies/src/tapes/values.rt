@@ -70,7 +70,7 @@ impl Tapes {
             .and_then(|tape| tape.value(at))
     }
 
-    // Has the channel a tape, and can it hold one value more?
+    // Has the channel a tape, and can it hold one value more? The engine need not ask: what it pushes has room.
     pub fn has_room(&self, channel: u8) -> bool
         ensures { result ≡ (nat_lt channel 16 && nat_lt (length (tapes_of self.now channel)) 64) }
     {
