@@ -7,6 +7,6 @@ pub mod compartments;
 // `class::page::Visit`.
 pub use page::{
     Act, Did, Fault, Flaw, Host, Moved, Part, PlainRun, ReadySet, Record, Refusal, Regime, Replica,
-    Script, Standing, Status, Visit, encoded_length, ladder, parts, read_script, slots,
+    Script, Standing, Status, Visit, encoded_length, ladder, parts, queues, read_script, slots,
     split_record, write_script,
 };

@@ -9,8 +9,8 @@ pub use any_host::hosts;
 // `house::class::Visit`.
 pub use class::{
     Act, Did, Fault, Flaw, Host, Moved, Part, PlainRun, ReadySet, Record, Refusal, Regime, Replica,
-    Script, Standing, Status, Visit, compartments, encoded_length, ladder, parts, read_script,
-    slots, split_record, write_script,
+    Script, Standing, Status, Visit, compartments, encoded_length, ladder, parts, queues,
+    read_script, slots, split_record, write_script,
 };
 pub use strip::entry::Entry;
 pub use strip::strips;

@@ -9,6 +9,7 @@ pub mod slots;
 pub use copies::replica::Replica;
 pub use engine::visit::Visit;
 pub use host::calls::Host;
+pub use host::queues;
 pub use meaning::answers::{Act, Moved, Standing, Status};
 pub use preview::acts::Did;
 pub use preview::plain_run::PlainRun;

@@ -8,7 +8,7 @@ use Rattle.copies.specs.Held.{copy_of, tape_of}
 use Rattle.copies.specs.declared.replica.Replica.{Replica}
 use Rattle.copies.specs.declared.tapes.Tape.{Tape}
 use Rattle.host.specs.Channels.{push_answer}
-use Rattle.meaning.specs.Copies.{InputValue, Plain, nth, plain_input}
+use Rattle.meaning.specs.Copies.{InputValue, Plain, default, missing, nth, plain_input, value}
 use Rattle.meaning.specs.Programs.{Program}
 use Rattle.preview.specs.declared.plain_run.PlainRun.{PlainRun}
 
@@ -37,9 +37,15 @@ lists_of p = lists_in p.lists
 abbrev pub plain_of : Replica → (ℕ → List ℤ) → Plain
 plain_of r w = record { copy = copy_of r; written = w }
 
--- what an in from channel k with that list gives the copy
-abbrev pub input_in : Option Tape → Replica → ℕ → InputValue
-input_in l r k = plain_input (is_some l) (nat_lt ((copy_of r).positions k) 64) (nth (list_in l) ((copy_of r).positions k))
+-- what an in from a channel with that list gives a copy at position n of it
+abbrev pub input_at : Option Tape → ℕ → InputValue
+input_at l n = plain_input (is_some l) (nat_lt n 64) (nth (list_in l) n)
+
+-- what an in gives, by what it is offered: 0 where it is offered nothing, else the next value, or nothing yet
+abbrev pub input_of : Option (Option ℤ) → InputValue
+input_of None = default
+input_of (Some (Some v)) = value v
+input_of (Some None) = missing
 
 -- what a give answers: CHANNEL, then DIRECTION, or that channel k is an in channel of the script
 abbrev pub give_answer : Program → ℕ → Result (Unit {0}) Refusal

@@ -1,10 +1,10 @@
 // One step.
-ghost use Rattle.std.specs.Prelude.{◌≡◌, ℕ, ◌<◌, List, ℤ};
+ghost use Rattle.std.specs.Prelude.{◌≡◌, ℕ, ◌<◌, true, List, ℤ, is_some};
 ghost use Rattle.copies.specs.Held.{copy_of};
 ghost use Rattle.meaning.specs.Copies.{plain_read, plain_write};
 ghost use Rattle.meaning.specs.Programs.{program};
 ghost use Rattle.preview.specs.Acts.{Stepped, did_read, written_after};
-ghost use Rattle.preview.specs.Views.{given_of, input_in, lists_of, plain_of};
+ghost use Rattle.preview.specs.Views.{given_of, input_at, input_of, lists_of, plain_of};
 ghost use Rattle.preview.specs.declared.acts.Did.TheVariants.{Wrote};
 
 use crate::acts::Did;
@@ -13,26 +13,37 @@ use copies::replica::Replica;
 use copies::tapes::Tape;
 use script::parts::Instruction;
 
-// An in from a channel with that list: 0, the next value of the list, or nothing yet.
-fn read(list: Option<Tape>, copy: &mut Replica, target: u8, channel: u8) -> Did
+// What a channel with that list offers a copy at a position, which may be nothing yet; without a list, and to a copy that
+// has read 64 values, it offers nothing at all.
+fn offered(list: &Option<Tape>, position: u8) -> Option<Option<i32>>
+    ensures gives { input_of result ≡ input_at list.now position }
+    ensures early { is_some result ≡ true → position < 64 }
+{
+    match list {
+        Some(list) if position < 64 => Some(list.value(position)),
+        _ => None,
+    }
+}
+
+// An in that is offered that: 0, the next value of the list, or nothing yet. Not in one body with `offered`: a list that is
+// lent beside a copy that is lent to be changed has no proof, and a list by value is copied whole.
+fn read(next: Option<Option<i32>>, copy: &mut Replica, target: u8, channel: u8) -> Did
     requires register { target < 16 }
     requires port { channel < 16 }
     requires running { (copy_of copy.old).next < 65535 }
-    ensures told { result ≡ did_read channel (input_in list copy.old channel) }
-    ensures after { (w : ℕ → List ℤ) → plain_of copy.new (written_after result w) ≡ plain_read (plain_of copy.old w) target channel (input_in list copy.old channel) }
+    requires early { is_some next ≡ true → (copy_of copy.old).positions channel < 64 }
+    ensures told { result ≡ did_read channel (input_of next) }
+    ensures after { (w : ℕ → List ℤ) → plain_of copy.new (written_after result w) ≡ plain_read (plain_of copy.old w) target channel (input_of next) }
 {
-    let position = copy.position(channel);
     // Not by `Source::of`: what it promises is of a host too, and each promise here then stays open without a lemma of every
     // case.
-    match list {
-        Some(list) if position < 64 => match list.value(position) {
-            Some(value) => {
-                copy.read(target, channel, value);
-                Did::Got { channel, value }
-            }
-            None => Did::Waits { channel },
-        },
-        _ => {
+    match next {
+        Some(Some(value)) => {
+            copy.read(target, channel, value);
+            Did::Got { channel, value }
+        }
+        Some(None) => Did::Waits { channel },
+        None => {
             copy.assign(target, 0);
             Did::Defaulted { channel }
         }
@@ -61,12 +72,9 @@ impl PlainRun {
         match self.script.instruction_at(self.copy.next()) {
             None => Did::Ended,
             Some(Instruction::Input { target, channel }) => {
-                read(
-                    self.lists[usize::from(channel)],
-                    &mut self.copy,
-                    target,
-                    channel,
-                )
+                let position = self.copy.position(channel);
+                let next = offered(&self.lists[usize::from(channel)], position);
+                read(next, &mut self.copy, target, channel)
             }
             Some(Instruction::Output { first, channel }) => write(&mut self.copy, first, channel),
             Some(inner) => {
