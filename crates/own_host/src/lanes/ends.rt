@@ -46,8 +46,11 @@ impl ChannelQueue for Lane {
         Ok(())
     }
 
-    // `remove` says that it leaves an empty lane as it is, and `pop_front` does not.
+    // An empty lane is refused before it is touched, as a full one is.
     fn pop(&mut self) -> Result<i32, Refusal> {
+        if self.len() == 0 {
+            return Err(Refusal::Empty);
+        }
         self.values.remove(0).ok_or(Refusal::Empty)
     }
 }
