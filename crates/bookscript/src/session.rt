@@ -4,6 +4,7 @@ use engine::visit::Visit;
 use host::calls::Host;
 use house::any_regime::AnyRegime;
 use page::slots::SlotHost;
+use script::accepted::Script;
 use std::io::{BufRead, BufReader, Read, Split};
 use std::ops::ControlFlow;
 use std::{fmt, io};
@@ -18,15 +19,16 @@ use tool::made::Made;
 // No input asks for as many hosts.
 const HOSTS: usize = usize::MAX;
 
-// Where a session is: what a line is answered by. A line leaves the stage that answers the next one, or asks for another
-// host, which ends the stage. What was made stays beside the stage: a line uses a stage up, and what was made outlives it.
-trait Stage: Drop {
-    fn answer(
-        self,
-        rt: &HostRuntime,
-        made: &mut Made,
-        command: Command,
-    ) -> io::Result<ControlFlow<NewHost, Self>>;
+// No input opens as many visits.
+const VISITS: usize = usize::MAX;
+
+// What ends the lines to a host that no visit has: there are no more, one asks for another host, or a call of a visit opens
+// one on the script and the levels.
+#[derive(Drop)]
+enum Waited {
+    End,
+    Host(NewHost),
+    Open(Script, AnyRegime, Command),
 }
 
 // Answers a line, unless it asks for a host, which ends the stage.
@@ -45,29 +47,6 @@ fn host_or<F: FnOnce(Command) -> io::Result<()>>(
     Ok(ControlFlow::Continue(()))
 }
 
-// No host was made yet.
-#[derive(Clone, Copy)]
-struct Unhosted;
-
-impl Stage for Unhosted {
-    fn answer(
-        self,
-        rt: &HostRuntime,
-        made: &mut Made,
-        command: Command,
-    ) -> io::Result<ControlFlow<NewHost, Unhosted>> {
-        let flow = host_or(rt, command, |command| made.answer(rt, command))?;
-        Ok(flow.map_continue(|()| self))
-    }
-}
-
-// A host, or the visit that has it while one is open.
-#[derive(Drop)]
-enum Hosted<H: Host> {
-    Host(H),
-    Visit(Visit<AnyRegime, H>),
-}
-
 fn is_call(command: &Command) -> bool {
     matches!(
         command,
@@ -78,64 +57,6 @@ fn is_call(command: &Command) -> bool {
             | Command::Turns(_)
             | Command::Ask(_)
     )
-}
-
-impl<H: Host + TellsEntries + Drop> Hosted<H> {
-    // A line to a host that no visit has. A call of a visit opens one, if script and levels were made.
-    fn answer_host(
-        rt: &HostRuntime,
-        made: &mut Made,
-        host: H,
-        command: Command,
-    ) -> io::Result<ControlFlow<NewHost, Hosted<H>>> {
-        if is_call(&command)
-            && let Some((script, levels)) = made.ready()
-        {
-            let mut visit = Visit::open(script, levels, host);
-            made.answer_first(rt, &mut visit, command)?;
-            return Ok(ControlFlow::Continue(Hosted::Visit(visit)));
-        }
-        let mut host = host;
-        let flow = host_or(
-            rt,
-            command,
-            |command| made.answer_with(rt, &mut host, command),
-        )?;
-        Ok(flow.map_continue(|()| Hosted::Host(host)))
-    }
-
-    // The line that closes a visit gives its host back; every other line is the visit's.
-    fn answer_or_close(
-        rt: &HostRuntime,
-        made: &mut Made,
-        visit: Visit<AnyRegime, H>,
-        command: Command,
-    ) -> io::Result<Hosted<H>> {
-        if let Command::Close = command {
-            println!(rt; "closed")?;
-            let (_, _, host) = visit.end();
-            return Ok(Hosted::Host(host));
-        }
-        let mut visit = visit;
-        made.answer_visit(rt, &mut visit, command)?;
-        Ok(Hosted::Visit(visit))
-    }
-}
-
-impl<H: Host + TellsEntries + Drop> Stage for Hosted<H> {
-    fn answer(
-        self,
-        rt: &HostRuntime,
-        made: &mut Made,
-        command: Command,
-    ) -> io::Result<ControlFlow<NewHost, Hosted<H>>> {
-        match self {
-            Hosted::Host(host) => Hosted::answer_host(rt, made, host, command),
-            Hosted::Visit(visit) => {
-                Ok(ControlFlow::Continue(Hosted::answer_or_close(rt, made, visit, command)?))
-            }
-        }
-    }
 }
 
 // The lines of one input, and what they made.
@@ -154,21 +75,68 @@ impl<R: Read + Drop> Session<R> {
         })
     }
 
-    // Answers lines, until one asks for a host; the host, unless there are no more lines.
-    fn run<S: Stage>(&mut self, rt: &HostRuntime, stage: S) -> io::Result<Option<NewHost>> {
-        let mut stage = stage;
+    // Answers lines while there is no host; the host that one asks for, unless there are no more lines.
+    fn answer_unhosted(&mut self, rt: &HostRuntime) -> io::Result<Option<NewHost>> {
         for line in &mut self.lines {
-            if let Some(command) = command_of(rt, line?.as_slice())? {
-                match stage.answer(rt, &mut self.made, command)? {
-                    ControlFlow::Continue(next) => stage = next,
-                    ControlFlow::Break(host) => return Ok(Some(host)),
-                }
+            let Some(command) = command_of(rt, line?.as_slice())? else {
+                continue;
+            };
+            let flow = host_or(rt, command, |command| self.made.answer(rt, command))?;
+            if let ControlFlow::Break(host) = flow {
+                return Ok(Some(host));
             }
         }
         Ok(None)
     }
 
-    // Lines to a host, until another is asked for.
+    // Answers lines to a host that no visit has. A call of a visit opens one, if script and levels were made.
+    fn wait<H: Host + TellsEntries>(
+        &mut self,
+        rt: &HostRuntime,
+        host: &mut H,
+    ) -> io::Result<Waited> {
+        for line in &mut self.lines {
+            let Some(command) = command_of(rt, line?.as_slice())? else {
+                continue;
+            };
+            if is_call(&command)
+                && let Some((script, levels)) = self.made.ready()
+            {
+                return Ok(Waited::Open(script, levels, command));
+            }
+            let flow = host_or(
+                rt,
+                command,
+                |command| self.made.answer_with(rt, host, command),
+            )?;
+            if let ControlFlow::Break(new) = flow {
+                return Ok(Waited::Host(new));
+            }
+        }
+        Ok(Waited::End)
+    }
+
+    // Answers lines to an open visit, until one closes it; is there more to come?
+    fn attend<H: Host + TellsEntries>(
+        &mut self,
+        rt: &HostRuntime,
+        visit: &mut Visit<AnyRegime, H>,
+    ) -> io::Result<bool> {
+        for line in &mut self.lines {
+            match command_of(rt, line?.as_slice())? {
+                None => {}
+                Some(Command::Close) => {
+                    println!(rt; "closed")?;
+                    return Ok(true);
+                }
+                Some(command) => self.made.answer_visit(rt, visit, command)?,
+            }
+        }
+        Ok(false)
+    }
+
+    // A host, and the visits that have it one after another, until another host is asked for. Host and visit are lent to the
+    // lines, and move only where a visit is opened or ends: a value of their size is not to be moved at each line.
     fn serve<H: Host + TellsEntries + Drop, C: fmt::Display + Copy>(
         &mut self,
         rt: &HostRuntime,
@@ -176,7 +144,24 @@ impl<R: Read + Drop> Session<R> {
         capacity: C,
     ) -> io::Result<Option<NewHost>> {
         tell_host(rt, &host, capacity)?;
-        self.run(rt, Hosted::Host(host))
+        let mut host = host;
+        for _ in 0..VISITS {
+            match self.wait(rt, &mut host)? {
+                Waited::End => return Ok(None),
+                Waited::Host(new) => return Ok(Some(new)),
+                Waited::Open(script, levels, command) => {
+                    let mut visit = Visit::open(script, levels, host);
+                    self.made.answer_first(rt, &mut visit, command)?;
+                    let more = self.attend(rt, &mut visit)?;
+                    let (_, _, back) = visit.end();
+                    host = back;
+                    if !more {
+                        return Ok(None);
+                    }
+                }
+            }
+        }
+        Ok(None)
     }
 
     // The same of a host over a strip, which borrows its entries.
@@ -209,7 +194,7 @@ impl<R: Read + Drop> Session<R> {
 // Answers the lines of an input. Each input is a session of its own, and nothing stays from one to the next.
 pub fn answer_lines<R: Read + Drop>(rt: &HostRuntime, input: R) -> io::Result<()> {
     let mut session = Session::new(rt, input)?;
-    let mut next = session.run(rt, Unhosted)?;
+    let mut next = session.answer_unhosted(rt)?;
     // Counted, since the check wants to see that a loop ends, and no iterator gives the hosts: each is asked for by a line
     // to the one before.
     for _ in 0..HOSTS {
