@@ -181,7 +181,7 @@ impl<R: Read + Drop> Session<R> {
         match host {
             NewHost::Slot => self.serve(rt, ToolHost::Slot(SlotHost::new()), SLOT_CAPACITY),
             NewHost::Own { host, capacities } => {
-                self.serve(rt, ToolHost::Own(host), Capacities(capacities.as_slice()))
+                self.serve(rt, ToolHost::Own(host), Capacities(capacities))
             }
             NewHost::Strip { count, entries } => {
                 let mut entries = entries;

@@ -12,7 +12,7 @@ use Rattle.verb.specs.declared.Shape.TheVariants as shape
 use Rattle.verb.specs.declared.Verb.{Verb}
 use Rattle.verb.specs.declared.Verb.TheVariants as verb
 use Rattle.text.specs.Answers.{then}
-use Rattle.text.specs.Arguments.{bytes_of, count_of, mask_of, room_of, row_of, capacity_of, value_of, entries_from, table_from, taken}
+use Rattle.text.specs.Arguments.{bytes_of, count_of, mask_of, room_of, row_of, capacity_of, value_of, table_from, taken}
 use Rattle.text.specs.Lines.{line_asked}
 use Rattle.verb.specs.Verbs.{host_of, shape_of, verb_of}
 use Rattle.text.specs.Words.{words_of}
@@ -66,7 +66,7 @@ request (command.Map n rows) = map n rows
 request (command.Flows a b) = flows a b
 request (command.Pick p m) = pick p m
 request command.SlotHost = slot_host
-request (command.OwnHost caps) = own_host (vec_items caps)
+request (command.OwnHost caps) = own_host caps
 request (command.StripHost c n) = strip_host c n
 request (command.Put c v) = put c v
 request (command.Take c) = take c
@@ -118,7 +118,7 @@ levels_asked ws = then (taken (λ w. ok_or (shape_of w) error.Shape) ws) (λ p. 
 -- a host of each kind
 abbrev pub by_kind : HostKind → List (List ℕ) → Result (Request × List (List ℕ)) LineError
 by_kind kind.Slot ws = Ok (slot_host, ws)
-by_kind kind.Caps ws = then (entries_from capacity_of 16 ws) (λ p. Ok (own_host p.0, p.1))
+by_kind kind.Caps ws = then (table_from capacity_of 16 ws) (λ p. Ok (own_host p.0, p.1))
 by_kind kind.Strip ws = of_number_and (taken room_of) strip_host ws
 
 -- the host that the words ask for, the kind first; and the words that are left

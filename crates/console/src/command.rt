@@ -7,7 +7,7 @@ ghost use Rattle.text.specs.Words.{left};
 
 use std::alloc::Global;
 use text::error::LineError;
-use text::lines::parse_line;
+use text::lines::is_comment;
 use text::words::Words;
 use verb::{HostKind, Shape, Verb};
 
@@ -31,8 +31,8 @@ pub enum Command {
     Flows { from: usize, to: usize },
     Pick { place: usize, mask: usize },
     SlotHost,
-    // The capacity of each channel.
-    OwnHost(Vec<u16>),
+    // The capacity of each channel; the first that is 0 ends them.
+    OwnHost([u16; 16]),
     StripHost { count: usize, entries: usize },
     // A channel and a value, as in `Feed` and `Add`.
     Put(usize, i32),
@@ -109,15 +109,15 @@ impl Command {
 
     // The command of that verb, with the arguments that it takes from the words.
     // Names apart from what they ask for: the verb picks the reader.
-    pub fn of(verb: Verb, words: &mut Words) -> Result<Command, LineError>
+    pub fn of(verb: Verb, heap: Global, words: &mut Words) -> Result<Command, LineError>
         ensures { Takes request (asked verb (left words.old)) result (left words.new) }
     {
         match verb {
-            Verb::Read => Ok(Command::Read(words.bytes()?)),
-            Verb::Show => Ok(Command::Show(words.bytes()?)),
-            Verb::Split => Ok(Command::Split(words.bytes()?, words.number()?)),
-            Verb::Write => Ok(Command::Write(words.bytes()?, words.room()?)),
-            Verb::List => Ok(Command::List(words.bytes()?)),
+            Verb::Read => Ok(Command::Read(words.bytes(heap)?)),
+            Verb::Show => Ok(Command::Show(words.bytes(heap)?)),
+            Verb::Split => Ok(Command::Split(words.bytes(heap)?, words.number()?)),
+            Verb::Write => Ok(Command::Write(words.bytes(heap)?, words.room()?)),
+            Verb::List => Ok(Command::List(words.bytes(heap)?)),
             Verb::Levels => Command::levels(words),
             Verb::Flows => Ok(Command::Flows {
                 from: words.number()?,
@@ -134,7 +134,7 @@ impl Command {
             Verb::Held => Ok(Command::Held(words.number()?)),
             Verb::Space => Ok(Command::Space(words.number()?)),
             Verb::Entries => Ok(Command::Entries),
-            Verb::Script => Ok(Command::Script(words.bytes()?)),
+            Verb::Script => Ok(Command::Script(words.bytes(heap)?)),
             Verb::Open => Ok(Command::Open),
             Verb::Feed => Ok(Command::Feed(words.number()?, words.value()?)),
             Verb::Collect => Ok(Command::Collect(words.number()?)),
@@ -152,16 +152,22 @@ impl Command {
     }
 
     // The command of that name, with the arguments that it takes from the words.
-    fn named(name: &[u8], words: &mut Words) -> Result<Command, LineError>
+    fn named(name: &[u8], heap: Global, words: &mut Words) -> Result<Command, LineError>
         ensures { Takes request (named name.now (left words.old)) result (left words.new) }
     {
-        Command::of(Verb::of(name).ok_or(LineError::Unknown)?, words)
+        Command::of(Verb::of(name).ok_or(LineError::Unknown)?, heap, words)
     }
 
     // What a line asks for; nothing if it is blank or for people.
     pub fn parse(heap: Global, line: &[u8]) -> Result<Option<Command>, LineError>
         ensures { Gives (option_map request) (request_of line.now) result }
     {
-        parse_line(heap, line, Command::named)
+        let mut words = Words::new(line);
+        let Some(name) = words.next_word().filter(|name| !is_comment(name)) else {
+            return Ok(None);
+        };
+        let command = Command::named(name, heap, &mut words)?;
+        words.end()?;
+        Ok(Some(command))
     }
 }

@@ -12,7 +12,7 @@ use std::time::Instant;
 
 // What the call answers, and how many nanoseconds it takes. That a call can be called is asked wherever one is handed on: no
 // type of this crate holds it.
-pub fn timed<T: Drop, F: FnOnce() -> T>(rt: &HostRuntime, call: F) -> io::Result<(T, u128)>
+pub(crate) fn timed<T: Drop, F: FnOnce() -> T>(rt: &HostRuntime, call: F) -> io::Result<(T, u128)>
     requires { F.IsAlwaysCallable call }
 {
     let start = Instant::now(rt)?;

@@ -3,5 +3,4 @@ pub mod Cuts
 pub mod Digits
 pub mod HexTexts
 pub mod Hexes
-pub mod Parsing
 pub mod Rows

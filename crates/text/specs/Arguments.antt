@@ -1,5 +1,5 @@
 -- The words after a command's name. Assumes nothing.
-use Rattle.std.specs.Prelude.{◌≡◌, ℕ, zero, suc, cond, ◌&&◌, ◌⊎◌, ◌-◌, List, [], ◌∷◌, ◌++◌, length, replicate, ℤ, pos, neg_ℤ, Some, None, Ok, Err, codes, Option, Result, ◌==◌, nat_le, nat_lt}
+use Rattle.std.specs.Prelude.{◌≡◌, ℕ, zero, suc, cond, ◌&&◌, ◌⊎◌, List, [], ◌∷◌, length, replicate, ℤ, pos, neg_ℤ, Some, None, Ok, Err, codes, Option, Result, ◌==◌, nat_le, nat_lt}
 use Rattle.std.specs.Borrow.{Bor}
 use Rattle.std.specs.Fn.{Shared}
 use Rattle.std.specs.Option.{ok_or}
@@ -64,15 +64,11 @@ abbrev pub value_of : List ℕ → Result ℤ LineError
 value_of [] = Err Value
 value_of (c ∷ cs) = cond (c == 45) (negative (number_in 10 cs)) (positive (number_in 10 (c ∷ cs)))
 
--- what f makes of the first k words, or of all where they are fewer, and the words after them; the first error ends it
-abbrev pub entries_from : (List ℕ → Result ℕ LineError) → ℕ → List (List ℕ) → Result (List ℕ × List (List ℕ)) LineError
-entries_from f zero ws = Ok ([], ws)
-entries_from f (suc k) [] = Ok ([], [])
-entries_from f (suc k) (w ∷ ws) = then (f w) (λ r. then (entries_from f k ws) (λ p. Ok (r ∷ p.0, p.1)))
-
--- k entries: what f makes of the words that are given, and then 0; and the words after them
+-- k entries: what f makes of the words that are given, and then 0; and the words after them; the first error ends it
 abbrev pub table_from : (List ℕ → Result ℕ LineError) → ℕ → List (List ℕ) → Result (List ℕ × List (List ℕ)) LineError
-table_from f k ws = then (entries_from f k ws) (λ p. Ok (p.0 ++ replicate (k - length p.0) 0, p.1))
+table_from f zero ws = Ok ([], ws)
+table_from f (suc k) [] = Ok (replicate (suc k) 0, [])
+table_from f (suc k) (w ∷ ws) = then (f w) (λ r. then (table_from f k ws) (λ p. Ok (r ∷ p.0, p.1)))
 
 -- what `read` answers at a word is what f makes of it
 abbrev pub Reads : {F : Type 0} → Shared F (Bor (List ℕ) × Unit {0}) (Result ℕ LineError) → F → (List ℕ → Result ℕ LineError) → Type 0

@@ -1,8 +1,8 @@
 // The words of a line, and what they stand for.
-ghost use Rattle.std.specs.Prelude.{◌≡◌, ℕ, ◌<◌, ◌≤◌, true, false, List, Result, length, IfOk, vec_items, vec_len, string_bytes, slice_index};
+ghost use Rattle.std.specs.Prelude.{◌≡◌, ℕ, ◌<◌, ◌≤◌, true, false, List, Result, length, IfOk, vec_items, string_bytes, slice_index};
 ghost use Rattle.std.specs.Char.{is_ascii_whitespace};
 ghost use Rattle.text.specs.Answers.{Gives};
-ghost use Rattle.text.specs.Arguments.{Reads, Takes, bytes_of, capacity_of, count_of, ended, entries_from, mask_of, negative, positive, room_of, row_of, table_from, taken, value_of, word_of};
+ghost use Rattle.text.specs.Arguments.{Reads, Takes, bytes_of, capacity_of, count_of, ended, mask_of, negative, positive, room_of, row_of, table_from, taken, value_of, word_of};
 ghost use Rattle.text.specs.Words.{words_of, left, Cut, First, Next};
 
 use crate::error::LineError;
@@ -13,13 +13,9 @@ use std::alloc::{AllocError, Global};
 // A buffer larger than this serves no script.
 const LARGEST_ROOM: usize = 65536;
 
-// Entries for as many levels or channels as there are at most.
-const MOST_ENTRIES: usize = 16;
-
-// What is left of a line, and the heap for what is made of it.
+// What is left of a line.
 #[derive(Clone, Copy)]
 pub struct Words<'a> {
-    heap: Global,
     rest: &'a [u8],
 }
 
@@ -139,10 +135,10 @@ fn value_of(word: &[u8]) -> Result<i32, LineError>
 
 impl<'a> Words<'a> {
     // All words of a line.
-    pub fn new(heap: Global, line: &'a [u8]) -> Words<'a>
+    pub fn new(line: &'a [u8]) -> Words<'a>
         ensures { left result ≡ words_of line.now }
     {
-        Words { heap, rest: line }
+        Words { rest: line }
     }
 
     // The next word, if there is one.
@@ -162,10 +158,10 @@ impl<'a> Words<'a> {
     }
 
     // The bytes that the next word stands for.
-    pub fn bytes(&mut self) -> Result<Vec<u8>, LineError>
+    pub fn bytes(&mut self, heap: Global) -> Result<Vec<u8>, LineError>
         ensures { Takes vec_items (taken bytes_of (left self.old)) result (left self.new) }
     {
-        bytes_of(self.heap, self.word()?)
+        bytes_of(heap, self.word()?)
     }
 
     // The number that the next word is.
@@ -196,44 +192,40 @@ impl<'a> Words<'a> {
         value_of(self.word()?)
     }
 
-    // What `read` makes of the words that are left, of 16 of them at most.
-    fn entries<F: Fn(&[u8]) -> Result<u16, LineError>>(
+    // What `read` makes of the words that are left, of 16 of them at most; the entries of words that are not given are 0.
+    fn table<F: Fn(&[u8]) -> Result<u16, LineError>>(
         &mut self,
         read: F,
-    ) -> Result<Vec<u16>, LineError>
+    ) -> Result<[u16; 16], LineError>
         ghost f: { List ℕ → Result ℕ LineError }
         requires callable { F.IsAlwaysCallable read }
         requires reads { Reads F.Fn read f }
-        ensures are { Takes vec_items (entries_from f 16 (left self.old)) result (left self.new) }
-        ensures few { IfOk result (λ v. vec_len v ≤ 16) }
+        ensures { Takes (λ t. t) (table_from f 16 (left self.old)) result (left self.new) }
     {
-        let mut entries = Vec::new(self.heap);
-        // `Words` is no iterator: what `take` of one promises says nothing of the words left after the 16th, which `end` has to see.
-        for _ in 0..MOST_ENTRIES {
+        let mut entries = [0; 16];
+        // By place: `Words` is no iterator, and what `zip` of one promises says nothing of the words left after the 16th, which
+        // `end` has to see.
+        for i in 0..16 {
             let Some(word) = self.next_word() else {
                 return Ok(entries);
             };
-            entries.push(read(word)?)?;
+            entries[i] = read(word)?;
         }
         Ok(entries)
     }
 
-    // The capacities that the next words are, 16 of them at most.
-    pub fn capacities(&mut self) -> Result<Vec<u16>, LineError>
-        ensures { Takes vec_items (entries_from capacity_of 16 (left self.old)) result (left self.new) }
+    // The capacities that the next words are, 16 of them at most; those that are not given are 0.
+    pub fn capacities(&mut self) -> Result<[u16; 16], LineError>
+        ensures { Takes (λ t. t) (table_from capacity_of 16 (left self.old)) result (left self.new) }
     {
-        self.entries(capacity_of)
+        self.table(capacity_of)
     }
 
     // The rows of an order map that the next words are, 16 of them at most; those that are not given are 0.
-    // An array and not a `Vec`: an order map has 16 rows, whatever is given.
     pub fn rows(&mut self) -> Result<[u16; 16], LineError>
         ensures { Takes (λ t. t) (table_from row_of 16 (left self.old)) result (left self.new) }
     {
-        let given = self.entries(row_of)?;
-        let mut rows = [0; 16];
-        rows[..given.len()].copy_from_slice(given.as_slice());
-        Ok(rows)
+        self.table(row_of)
     }
 
     // No word is left.

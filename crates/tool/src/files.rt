@@ -25,7 +25,7 @@ pub fn tell_script(rt: &HostRuntime, script: &Script) -> io::Result<()> {
 }
 
 // The answer about a file's script, or the refusal of the file.
-pub fn answer_file<F: FnOnce(&Script) -> io::Result<()>>(
+pub(crate) fn answer_file<F: FnOnce(&Script) -> io::Result<()>>(
     rt: &HostRuntime,
     file: &[u8],
     answer: F,

@@ -11,13 +11,23 @@ use text::error::LineError;
 // The capacity of each channel of the slot host.
 pub const SLOT_CAPACITY: usize = 32;
 
-// Capacities with commas between them. A struct of one field: a crate may not implement `Display` for a slice.
-#[derive(Clone, Copy)]
-pub struct Capacities<'a>(pub &'a [u16]);
+// The capacities that a line gave: those before the first that is 0, which no channel can have.
+fn given(capacities: &[u16; 16]) -> &[u16] {
+    let count = capacities
+        .iter()
+        .position(|capacity| *capacity == 0)
+        .unwrap_or(capacities.len());
+    &capacities[..count]
+}
 
-impl fmt::Display for Capacities<'_> {
+// Capacities that a line gave, with commas between them. A struct of one field: a crate may not implement `Display` for an
+// array.
+#[derive(Clone, Copy)]
+pub struct Capacities(pub [u16; 16]);
+
+impl fmt::Display for Capacities {
     fn fmt<W: fmt::Write>(&self, f: &mut fmt::Formatter<W>) -> fmt::Result {
-        let [first, rest @ ..] = self.0 else {
+        let [first, rest @ ..] = given(&self.0) else {
             return f.write_str("-");
         };
         write!(f, "{first}")?;
@@ -38,7 +48,7 @@ pub enum NewHost {
     Own {
         host: HeapHost,
         // To be shown: a new host would tell them as its space, but as a `Result` for each channel.
-        capacities: Vec<u16>,
+        capacities: [u16; 16],
     },
     Strip {
         // How many channels; the entries are as many as the line asks for.
@@ -47,11 +57,11 @@ pub enum NewHost {
     },
 }
 
-// A host with a channel for each capacity. A command has 16 capacities at most and each is one that a channel can
-// have, so only memory can be wanting.
-fn heap_host(rt: &HostRuntime, capacities: &[u16]) -> Result<HeapHost, LineError> {
+// A host with a channel for each capacity that a line gave. They are 16 at most, and each is one that a channel can have,
+// so only memory can be wanting.
+fn heap_host(rt: &HostRuntime, capacities: &[u16; 16]) -> Result<HeapHost, LineError> {
     let mut host = HeapHost::new(rt.alloc());
-    for capacity in capacities {
+    for capacity in given(capacities) {
         host.add(rt.alloc(), usize::from(*capacity), &[])
             .map_err(|_| LineError::Memory)?;
     }
@@ -117,8 +127,8 @@ pub fn host_asked(rt: &HostRuntime, command: &Command) -> Result<Option<NewHost>
     match command {
         Command::SlotHost => Ok(Some(NewHost::Slot)),
         Command::OwnHost(capacities) => Ok(Some(NewHost::Own {
-            host: heap_host(rt, capacities.as_slice())?,
-            capacities: capacities.clone()?,
+            host: heap_host(rt, capacities)?,
+            capacities: *capacities,
         })),
         Command::StripHost { count, entries } => Ok(Some(NewHost::Strip {
             count: *count,
