@@ -193,6 +193,7 @@ impl<'a> Words<'a> {
     }
 
     // What `read` makes of the words that are left, of 16 of them at most; the entries of words that are not given are 0.
+    #[tactic(auto, using(crate::proofs::Rows::start, crate::proofs::Rows::done))]
     fn table<F: Fn(&[u8]) -> Result<u16, LineError>>(
         &mut self,
         read: F,
