@@ -133,7 +133,9 @@ impl Replica {
         true
     }
 
-    // An instruction that neither takes a value in nor gives one out, in a script that ends at that place.
+    // An instruction that neither takes a value in nor gives one out, in a script that ends at that place. In line: a call would
+    // cost as much as most instructions do.
+    #[inline(always)]
     pub fn compute(&mut self, instruction: Instruction, end: u16) -> bool
         ensures answer { result ≡ computes (copy_of self.old) instruction }
         ensures done { computes (copy_of self.old) instruction ≡ true → copy_of self.new ≡ computed (copy_of self.old) end instruction }

@@ -69,15 +69,19 @@ impl PlainRun {
         ensures given { given_of self.new ≡ given_of self.old }
         ensures lists { self.new.lists ≡ self.old.lists }
     {
-        match self.script.instruction_at(self.copy.next()) {
-            None => Did::Ended,
-            Some(Instruction::Input { target, channel }) => {
+        // The instruction is matched where it stands: `instruction_at` would copy it out at every step.
+        let place = usize::from(self.copy.next());
+        if place >= self.script.instruction_count {
+            return Did::Ended;
+        }
+        match self.script.instructions[place] {
+            Instruction::Input { target, channel } => {
                 let position = self.copy.position(channel);
                 let next = offered(&self.lists[usize::from(channel)], position);
                 read(next, &mut self.copy, target, channel)
             }
-            Some(Instruction::Output { first, channel }) => write(&mut self.copy, first, channel),
-            Some(inner) => {
+            Instruction::Output { first, channel } => write(&mut self.copy, first, channel),
+            inner => {
                 self.copy
                     .compute(inner, self.script.instruction_count as u16);
                 Did::Inner
