@@ -194,7 +194,7 @@ impl<'a> Words<'a> {
 
     // What `read` makes of the words that are left, of 16 of them at most; the entries of words that are not given are 0.
     #[tactic(auto, using(crate::proofs::Rows::start, crate::proofs::Rows::done))]
-    fn table<F: Fn(&[u8]) -> Result<u16, LineError>>(
+    fn entries<F: Fn(&[u8]) -> Result<u16, LineError>>(
         &mut self,
         read: F,
     ) -> Result<[u16; 16], LineError>
@@ -219,14 +219,14 @@ impl<'a> Words<'a> {
     pub fn capacities(&mut self) -> Result<[u16; 16], LineError>
         ensures { Takes (λ t. t) (table_from capacity_of 16 (left self.old)) result (left self.new) }
     {
-        self.table(capacity_of)
+        self.entries(capacity_of)
     }
 
     // The rows of an order map that the next words are, 16 of them at most; those that are not given are 0.
     pub fn rows(&mut self) -> Result<[u16; 16], LineError>
         ensures { Takes (λ t. t) (table_from row_of 16 (left self.old)) result (left self.new) }
     {
-        self.table(row_of)
+        self.entries(row_of)
     }
 
     // No word is left.

@@ -1,5 +1,5 @@
 use Rattle.text.specs.Arguments.{capacity_of}
 use Rattle.text.proofs.words.Words.capacities.Given as goal
 
-abbrev pub ghost-table : goal.ghost-table
-ghost-table a = capacity_of
+abbrev pub ghost-entries : goal.ghost-entries
+ghost-entries a = capacity_of

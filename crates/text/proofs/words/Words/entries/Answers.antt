@@ -1,7 +1,7 @@
 use Rattle.std.proofs.Common.{sym, inr, arith}
 use Rattle.std.proofs.lemmas.Result.{err_from_is_err_and}
 use Rattle.text.proofs.Rows.{more, stop, short}
-use Rattle.text.proofs.words.Words.table.Goals as goal
+use Rattle.text.proofs.words.Words.entries.Goals as goal
 
 pub loop-i-preserved : goal.loop-i-preserved
 loop-i-preserved g c = more g.f _ c.loop-i.i c.loop-i.entries _ c.in-Some.word.now _ c.in_ok-entries.field-0 (omega arith) c.in-Some.ensures (sym (c.requires.1.1 _ _ c.in_ok-entries.ensures)) c.loop-i.invariant
