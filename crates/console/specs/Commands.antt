@@ -1,6 +1,5 @@
 -- What the words of a line ask for. Assumes nothing.
 use Rattle.std.specs.Prelude.{ℕ, cond, List, ℤ, Some, None, Ok, Err, vec_items, Option, Result, nat_le}
-use Rattle.std.specs.Option.{ok_or}
 use Rattle.console.specs.declared.command.Command.{Command}
 use Rattle.console.specs.declared.command.Command.TheVariants as command
 use Rattle.text.specs.declared.error.LineError.{LineError}
@@ -113,7 +112,7 @@ by_shape shape.Map ws = of_number_and (table_from row_of 16) map ws
 
 -- the levels that the words ask for, the kind first; and the words that are left
 abbrev pub levels_asked : List (List ℕ) → Result (Request × List (List ℕ)) LineError
-levels_asked ws = then (taken (λ w. ok_or (shape_of w) error.Shape) ws) (λ p. by_shape p.0 p.1)
+levels_asked ws = then (taken shape_of ws) (λ p. by_shape p.0 p.1)
 
 -- a host of each kind
 abbrev pub by_kind : HostKind → List (List ℕ) → Result (Request × List (List ℕ)) LineError
@@ -123,7 +122,7 @@ by_kind kind.Strip ws = of_number_and (taken room_of) strip_host ws
 
 -- the host that the words ask for, the kind first; and the words that are left
 abbrev pub host_asked : List (List ℕ) → Result (Request × List (List ℕ)) LineError
-host_asked ws = then (taken (λ w. ok_or (host_of w) error.Host) ws) (λ p. by_kind p.0 p.1)
+host_asked ws = then (taken host_of ws) (λ p. by_kind p.0 p.1)
 
 -- turns in a row, ten million at most
 abbrev pub turns_asked : List (List ℕ) → Result (Request × List (List ℕ)) LineError

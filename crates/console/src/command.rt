@@ -63,7 +63,7 @@ impl Command {
     fn levels(words: &mut Words) -> Result<Command, LineError>
         ensures { Takes request (levels_asked (left words.old)) result (left words.new) }
     {
-        match Shape::of(words.word()?).ok_or(LineError::Shape)? {
+        match Shape::of(words.word()?)? {
             Shape::Ladder => Ok(Command::Ladder(words.number()?)),
             Shape::Compartments => Ok(Command::Compartments(words.number()?)),
             Shape::Map => Ok(Command::Map {
@@ -91,7 +91,7 @@ impl Command {
     fn host(words: &mut Words) -> Result<Command, LineError>
         ensures { Takes request (host_asked (left words.old)) result (left words.new) }
     {
-        let kind = HostKind::of(words.word()?).ok_or(LineError::Host)?;
+        let kind = HostKind::of(words.word()?)?;
         Command::of_kind(kind, words)
     }
 

@@ -1,6 +1,8 @@
 -- The names of the commands. Assumes nothing.
-use Rattle.std.specs.Prelude.{ℕ, cond, List, Some, None, codes, Option}
+use Rattle.std.specs.Prelude.{ℕ, cond, List, Some, None, Ok, Err, codes, Option, Result}
 use Rattle.std.specs.Str.{bytes_eq}
+use Rattle.text.specs.declared.error.LineError.{LineError}
+use Rattle.text.specs.declared.error.LineError.TheVariants as error
 use Rattle.verb.specs.declared.HostKind.{HostKind}
 use Rattle.verb.specs.declared.HostKind.TheVariants as kind
 use Rattle.verb.specs.declared.Shape.{Shape}
@@ -41,16 +43,16 @@ verb_of w =
     (cond (bytes_eq w (codes "copy")) (Some verb.Copy)
     (cond (bytes_eq w (codes "help")) (Some verb.Help) None))))))))))))))))))))))))))))
 
--- the kinds of regime
-abbrev pub shape_of : List ℕ → Option Shape
+-- the kinds of regime, or the error of a word that is none
+abbrev pub shape_of : List ℕ → Result Shape LineError
 shape_of w =
-    cond (bytes_eq w (codes "ladder")) (Some shape.Ladder)
-    (cond (bytes_eq w (codes "compartments")) (Some shape.Compartments)
-    (cond (bytes_eq w (codes "map")) (Some shape.Map) None))
+    cond (bytes_eq w (codes "ladder")) (Ok shape.Ladder)
+    (cond (bytes_eq w (codes "compartments")) (Ok shape.Compartments)
+    (cond (bytes_eq w (codes "map")) (Ok shape.Map) (Err error.Shape)))
 
--- the kinds of host that the tool can make
-abbrev pub host_of : List ℕ → Option HostKind
+-- the kinds of host that the tool can make, or the error of a word that is none
+abbrev pub host_of : List ℕ → Result HostKind LineError
 host_of w =
-    cond (bytes_eq w (codes "slot")) (Some kind.Slot)
-    (cond (bytes_eq w (codes "caps")) (Some kind.Caps)
-    (cond (bytes_eq w (codes "strip")) (Some kind.Strip) None))
+    cond (bytes_eq w (codes "slot")) (Ok kind.Slot)
+    (cond (bytes_eq w (codes "caps")) (Ok kind.Caps)
+    (cond (bytes_eq w (codes "strip")) (Ok kind.Strip) (Err error.Host)))

@@ -1,9 +1,11 @@
 // The names of the commands.
-// `of` and no `TryFrom`: the error of a word that is no name differs by caller.
+// `of` and no `TryFrom`: the method's name says no more than that the word is looked up.
 #![tactic(auto, using(crate::proofs::Names::same_name, crate::proofs::Names::other_length, crate::proofs::Names::other_head, crate::proofs::Names::other_second, crate::proofs::Names::other_third))]
 
 ghost use Rattle.std.specs.Prelude.{◌≡◌};
 ghost use Rattle.verb.specs.Verbs.{host_of, shape_of, verb_of};
+
+use text::error::LineError;
 
 // What a line asks for, by its first word.
 #[derive(Clone, Copy, PartialEq, Eq, Debug)]
@@ -88,15 +90,15 @@ pub enum Shape {
 }
 
 impl Shape {
-    // The kind of that name.
-    pub fn of(word: &[u8]) -> Option<Shape>
+    // The kind of that name, or the error of a line that asks for another.
+    pub fn of(word: &[u8]) -> Result<Shape, LineError>
         ensures { result ≡ shape_of word.now }
     {
         match word {
-            b"ladder" => Some(Shape::Ladder),
-            b"compartments" => Some(Shape::Compartments),
-            b"map" => Some(Shape::Map),
-            _ => None,
+            b"ladder" => Ok(Shape::Ladder),
+            b"compartments" => Ok(Shape::Compartments),
+            b"map" => Ok(Shape::Map),
+            _ => Err(LineError::Shape),
         }
     }
 }
@@ -110,15 +112,15 @@ pub enum HostKind {
 }
 
 impl HostKind {
-    // The kind of that name.
-    pub fn of(word: &[u8]) -> Option<HostKind>
+    // The kind of that name, or the error of a line that asks for another.
+    pub fn of(word: &[u8]) -> Result<HostKind, LineError>
         ensures { result ≡ host_of word.now }
     {
         match word {
-            b"slot" => Some(HostKind::Slot),
-            b"caps" => Some(HostKind::Caps),
-            b"strip" => Some(HostKind::Strip),
-            _ => None,
+            b"slot" => Ok(HostKind::Slot),
+            b"caps" => Ok(HostKind::Caps),
+            b"strip" => Ok(HostKind::Strip),
+            _ => Err(LineError::Host),
         }
     }
 }
