@@ -1,5 +1,5 @@
 -- What the slot host's channels hold. Assumes nothing.
-use Rattle.std.specs.Prelude.{◌≡◌, ℕ, zero, suc, List, [], ◌∷◌, map, take, ℤ, slice_index_or}
+use Rattle.std.specs.Prelude.{◌≡◌, ℕ, zero, suc, List, [], ◌∷◌, length, map, take, ℤ, slice_index_or}
 use Rattle.std.proofs.Common.{refl, arith}
 use Rattle.host.specs.Channels.{Channels, Lawful}
 use Rattle.host.specs.Queues.{queued}
@@ -14,9 +14,13 @@ contents q = take q.len q.values
 abbrev pub room : Queue → ℕ
 room q = 32
 
--- what a slot host means: a channel for each queue
+-- 16 channels of capacity 32, of the lists of these queues
+abbrev pub slots : List Queue → Channels
+slots qs = record { count = 16; capacity = λ _. 32; list = λ c. slice_index_or (map contents qs) c [] }
+
+-- what a slot host means
 abbrev pub channels_of : SlotHost → Channels
-channels_of h = queued contents room 32 h.queues
+channels_of h = slots h.queues
 
 -- what a slot host means that was just made: 16 channels of capacity 32 that hold nothing
 abbrev pub empty_channels : Channels
@@ -28,10 +32,14 @@ all_alike [] c = refl
 all_alike (q ∷ qs) zero = refl
 all_alike (q ∷ qs) (suc c) = all_alike qs c
 
+-- 16 queues in a row mean the channels of a slot host
+pub row_of : (qs : List Queue) → length qs ≡ 16 → queued contents room 32 qs ≡ slots qs
+row_of qs e i = record { count = e i; capacity = λ c. all_alike qs c i; list = λ c. slice_index_or (map contents qs) c [] }
+
 -- every slot host has 16 channels of capacity 32
 pub sized : (h : SlotHost) → ((channels_of h).count ≡ 16) × ((c : ℕ) → (channels_of h).capacity c ≡ 32)
-sized h = (h.all, all_alike h.queues)
+sized h = (refl, λ c. refl)
 
 -- every slot host has at most 16 channels, each of a capacity from 1 to 65,535
 pub slots_lawful : (h : SlotHost) → Lawful (channels_of h)
-slots_lawful h = record { few = omega (arith, (sized h).0); roomy = λ c _. omega (arith, (sized h).1 c); bounded = λ c _. omega (arith, (sized h).1 c) }
+slots_lawful h = record { few = omega arith; roomy = λ c _. omega arith; bounded = λ c _. omega arith }

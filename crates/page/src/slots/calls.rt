@@ -42,10 +42,12 @@ impl Host for SlotHost {
         queues::space(&self.queues, channel)
     }
 
+    #[tactic(auto, using(crate::proofs::Rowed::left_put))]
     fn put(&mut self, channel: u8, value: i32) -> Result<(), Refusal> {
         queues::put(&mut self.queues, channel, value)
     }
 
+    #[tactic(auto, using(crate::proofs::Rowed::left_take))]
     fn take(&mut self, channel: u8) -> Result<i32, Refusal> {
         queues::take(&mut self.queues, channel)
     }
