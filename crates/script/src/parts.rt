@@ -34,8 +34,8 @@ impl Channel {
     };
 }
 
-// By hand, here and for instructions and scripts: a caller of `==` is told that it decides equality, and a derive tells of
-// no function more than its trait does.
+// By hand, here and for instructions and scripts: each says that it decides equality, for which a derive has no clause, and
+// has a body in which a slip can be planted and is refused.
 impl PartialEq for Channel {
     ghost eq = { same_channel };
 
