@@ -79,7 +79,7 @@ impl Command {
     {
         match kind {
             HostKind::Slot => Ok(Command::SlotHost),
-            HostKind::Caps => Ok(Command::OwnHost(words.capacities()?)),
+            HostKind::Caps => Ok(Command::OwnHost(words.capacity_table()?)),
             HostKind::Strip => Ok(Command::StripHost {
                 count: words.number()?,
                 entries: words.room()?,

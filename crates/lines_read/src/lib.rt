@@ -5,6 +5,7 @@
 mod tests {
     use console::command::Command;
     use text::error::LineError;
+    use text::lines::parse_line;
     use text::words::Words;
     use verb::{HostKind, Verb};
 
@@ -17,11 +18,20 @@ mod tests {
     }
 
     #[test]
-    fn capacities_are_read(rt: HostRuntime) {
+    fn capacity_tables_are_read(rt: HostRuntime) {
         assert_eq!(rt;
-            Words::new(b"1 65535").capacities(),
+            Words::new(b"1 65535").capacity_table(),
             Ok([1, 65535, 0, 0, 0, 0, 0, 0, 0, 0, 0, 0, 0, 0, 0, 0])
         );
+    }
+
+    // This and `bytes_are_read` are written out: their items differ in type.
+    #[test]
+    fn capacities_are_read(rt: HostRuntime) {
+        let Ok(capacities) = Words::new(b"1 65535").capacities(rt.alloc()) else {
+            return assert!(rt; false, "capacities");
+        };
+        assert_eq!(rt; capacities.as_slice(), [1, 65535].as_slice());
     }
 
     #[test]
@@ -59,6 +69,34 @@ mod tests {
             return assert!(rt; false, "bytes");
         };
         assert_eq!(rt; bytes.as_slice(), [10, 255].as_slice());
+    }
+
+    // A line of a console of another.
+    fn numbered(name: &[u8], words: &mut Words) -> Result<(usize, usize), LineError> {
+        match name {
+            b"two" => Ok((words.number()?, words.number()?)),
+            _ => Err(LineError::Unknown),
+        }
+    }
+
+    #[test]
+    fn lines_of_another_console_are_parsed(rt: HostRuntime) {
+        assert_eq!(rt;
+            parse_line(rt.alloc(), b" two 3 7 ", numbered),
+            Ok(Some((3, 7)))
+        );
+        assert_eq!(rt;
+            parse_line(rt.alloc(), b"# two 3 7", numbered),
+            Ok(None)
+        );
+        assert_eq!(rt;
+            parse_line(rt.alloc(), b"two 3 7 8", numbered),
+            Err(LineError::Extra)
+        );
+        assert_eq!(rt;
+            parse_line(rt.alloc(), b"one 3", numbered),
+            Err(LineError::Unknown)
+        );
     }
 
     #[test]

@@ -6,7 +6,7 @@ use Rattle.std.specs.Option.{ok_or}
 use Rattle.std.specs.Str.{bytes_eq}
 use Rattle.text.specs.declared.error.LineError.{LineError}
 use Rattle.text.specs.declared.error.LineError.TheVariants.{Missing, Extra, Number, Room, Row, Mask, Capacity, Value, Memory}
-use Rattle.text.specs.Answers.{then}
+use Rattle.text.specs.Answers.{Gives, then}
 use Rattle.text.specs.Hex.{decoded, encoded}
 use Rattle.text.specs.Numbers.{number_in}
 
@@ -64,11 +64,27 @@ abbrev pub value_of : List ℕ → Result ℤ LineError
 value_of [] = Err Value
 value_of (c ∷ cs) = cond (c == 45) (negative (number_in 10 cs)) (positive (number_in 10 (c ∷ cs)))
 
+-- what f makes of the first k words, or of all where they are fewer, and the words after them; the first error ends it
+abbrev pub entries_from : (List ℕ → Result ℕ LineError) → ℕ → List (List ℕ) → Result (List ℕ × List (List ℕ)) LineError
+entries_from f zero ws = Ok ([], ws)
+entries_from f (suc k) [] = Ok ([], [])
+entries_from f (suc k) (w ∷ ws) = then (f w) (λ r. then (entries_from f k ws) (λ p. Ok (r ∷ p.0, p.1)))
+
 -- k entries: what f makes of the words that are given, and then 0; and the words after them; the first error ends it
 abbrev pub table_from : (List ℕ → Result ℕ LineError) → ℕ → List (List ℕ) → Result (List ℕ × List (List ℕ)) LineError
 table_from f zero ws = Ok ([], ws)
 table_from f (suc k) [] = Ok (replicate (suc k) 0, [])
 table_from f (suc k) (w ∷ ws) = then (f w) (λ r. then (table_from f k ws) (λ p. Ok (r ∷ p.0, p.1)))
+
+-- the entries before the first that is 0
+abbrev pub before_zero : List ℕ → List ℕ
+before_zero [] = []
+before_zero (x ∷ xs) = cond (x == 0) [] (x ∷ before_zero xs)
+
+-- r is the list of what stands in a table before the first 0, seen through view, unless memory failed, or the error that t is
+abbrev pub Listed : {X : Type 0} → (X → List ℕ) → Result (List ℕ) LineError → Result X LineError → Type 0
+Listed view (Ok t) r = Gives view (Ok (before_zero t)) r
+Listed view (Err e) r = r ≡ Err e
 
 -- what `read` answers at a word is what f makes of it
 abbrev pub Reads : {F : Type 0} → Shared F (Bor (List ℕ) × Unit {0}) (Result ℕ LineError) → F → (List ℕ → Result ℕ LineError) → Type 0

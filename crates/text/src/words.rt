@@ -1,8 +1,8 @@
 // The words of a line, and what they stand for.
-ghost use Rattle.std.specs.Prelude.{◌≡◌, ℕ, ◌<◌, ◌≤◌, true, false, List, Result, length, IfOk, vec_items, string_bytes, slice_index};
+ghost use Rattle.std.specs.Prelude.{◌≡◌, ℕ, ◌<◌, ◌≤◌, ◌==◌, true, false, List, Result, length, IfOk, vec_items, string_bytes, slice_index};
 ghost use Rattle.std.specs.Char.{is_ascii_whitespace};
 ghost use Rattle.text.specs.Answers.{Gives};
-ghost use Rattle.text.specs.Arguments.{Reads, Takes, bytes_of, capacity_of, count_of, ended, mask_of, negative, positive, room_of, row_of, table_from, taken, value_of, word_of};
+ghost use Rattle.text.specs.Arguments.{Listed, Reads, Takes, before_zero, bytes_of, capacity_of, count_of, ended, entries_from, mask_of, negative, positive, room_of, row_of, table_from, taken, value_of, word_of};
 ghost use Rattle.text.specs.Words.{words_of, left, Cut, First, Next};
 
 use crate::error::LineError;
@@ -104,6 +104,33 @@ fn capacity_of(word: &[u8]) -> Result<u16, LineError>
         .filter(|capacity| *capacity >= 1)
         .and_then(|capacity| u16::try_from(capacity).ok())
         .ok_or(LineError::Capacity)
+}
+
+// How many entries stand before the first that is 0.
+fn given_count(table: &[u16]) -> usize
+    ensures within { result ≤ length table.now }
+    ensures some { (k : ℕ) → k < result → (slice_index table.now k == 0) ≡ false }
+    ensures stops { result < length table.now → (slice_index table.now result == 0) ≡ true }
+{
+    table
+        .iter()
+        .position(|entry| *entry == 0)
+        .unwrap_or(table.len())
+}
+
+// The entries before the first that is 0.
+#[tactic(auto, using(crate::proofs::Given::all_before))]
+fn given(table: &[u16]) -> &[u16]
+    ensures { result.now ≡ before_zero table.now }
+{
+    &table[..given_count(table)]
+}
+
+// A list of them, if the table could be read.
+fn list_of(heap: Global, table: Result<[u16; 16], LineError>) -> Result<Vec<u16>, LineError>
+    ensures { Listed vec_items table result }
+{
+    Ok(given(&table?).to_vec(heap)?)
 }
 
 // The value of a size, if it is not too large. One line, as `negative_of` is: they differ in the sign and in the bound.
@@ -216,10 +243,17 @@ impl<'a> Words<'a> {
     }
 
     // The capacities that the next words are, 16 of them at most; those that are not given are 0.
-    pub fn capacities(&mut self) -> Result<[u16; 16], LineError>
+    pub fn capacity_table(&mut self) -> Result<[u16; 16], LineError>
         ensures { Takes (λ t. t) (table_from capacity_of 16 (left self.old)) result (left self.new) }
     {
         self.entries(capacity_of)
+    }
+
+    // Those that are given, in a list on the heap.
+    pub fn capacities(&mut self, heap: Global) -> Result<Vec<u16>, LineError>
+        ensures { Takes vec_items (entries_from capacity_of 16 (left self.old)) result (left self.new) }
+    {
+        list_of(heap, self.capacity_table())
     }
 
     // The rows of an order map that the next words are, 16 of them at most; those that are not given are 0.

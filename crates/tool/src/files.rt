@@ -17,7 +17,7 @@ fn refuse_file(rt: &HostRuntime, fault: Fault) -> io::Result<()> {
 }
 
 // Prints `script` and how many levels, channels and instructions it has.
-pub(crate) fn tell_script(rt: &HostRuntime, script: &Script) -> io::Result<()> {
+pub fn tell_script(rt: &HostRuntime, script: &Script) -> io::Result<()> {
     let levels = script.levels;
     let channels = script.channel_count;
     let instructions = script.instruction_count;
@@ -25,7 +25,7 @@ pub(crate) fn tell_script(rt: &HostRuntime, script: &Script) -> io::Result<()> {
 }
 
 // The answer about a file's script, or the refusal of the file.
-pub(crate) fn answer_file<F: FnOnce(&Script) -> io::Result<()>>(
+pub fn answer_file<F: FnOnce(&Script) -> io::Result<()>>(
     rt: &HostRuntime,
     file: &[u8],
     answer: F,
@@ -39,17 +39,17 @@ pub(crate) fn answer_file<F: FnOnce(&Script) -> io::Result<()>>(
 }
 
 // Prints how many levels, channels and instructions the file's script has.
-pub(crate) fn read(rt: &HostRuntime, file: &[u8]) -> io::Result<()> {
+pub fn read(rt: &HostRuntime, file: &[u8]) -> io::Result<()> {
     answer_file(rt, file, |script| tell_script(rt, script))
 }
 
 // Prints the script's channels and instructions, field by field.
-pub(crate) fn show(rt: &HostRuntime, file: &[u8]) -> io::Result<()> {
+pub fn show(rt: &HostRuntime, file: &[u8]) -> io::Result<()> {
     answer_file(rt, file, |script| println!(rt; "{}", Shown(script)))
 }
 
 // Prints what the record is, the number of its first byte, and its bytes; or `nothing` where there is none.
-pub(crate) fn split(rt: &HostRuntime, file: &[u8], index: usize) -> io::Result<()> {
+pub fn split(rt: &HostRuntime, file: &[u8], index: usize) -> io::Result<()> {
     match split_record(file, index) {
         Ok(Some((first, Record::Channel(bytes)))) => {
             println!(rt; "channel {first} {}", word_of(rt.alloc(), bytes)?)
@@ -75,6 +75,6 @@ fn tell_written(rt: &HostRuntime, script: &Script, room: usize) -> io::Result<()
 }
 
 // Writes the file's script so.
-pub(crate) fn write(rt: &HostRuntime, file: &[u8], room: usize) -> io::Result<()> {
+pub fn write(rt: &HostRuntime, file: &[u8], room: usize) -> io::Result<()> {
     answer_file(rt, file, |script| tell_written(rt, script, room))
 }

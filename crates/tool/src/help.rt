@@ -34,7 +34,7 @@ const LINES: &[&str] = &[
     "HEX is hex digits, or - for no bytes; a line that begins with # is left out",
 ];
 
-pub(crate) fn help(rt: &HostRuntime) -> io::Result<()> {
+pub fn help(rt: &HostRuntime) -> io::Result<()> {
     for line in LINES {
         rt.println(*line)?;
     }

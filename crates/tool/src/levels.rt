@@ -10,20 +10,20 @@ use regime::rules::Regime;
 use std::io;
 use text::number::capped_byte;
 
-pub(crate) fn ladder(n: usize) -> AnyRegime {
+pub fn ladder(n: usize) -> AnyRegime {
     AnyRegime::Ladder(Ladder::new(capped_byte(n)))
 }
 
-pub(crate) fn compartments(k: usize) -> AnyRegime {
+pub fn compartments(k: usize) -> AnyRegime {
     AnyRegime::Compartments(Compartments::new(capped_byte(k)))
 }
 
-pub(crate) fn map(n: usize, rows: [u16; 16]) -> Result<AnyRegime, Refusal> {
+pub fn map(n: usize, rows: [u16; 16]) -> Result<AnyRegime, Refusal> {
     OrderMap::new(capped_byte(n), rows).map(AnyRegime::Map)
 }
 
 // Keeps the levels that were made and prints how many they are; a refusal leaves those that were made before.
-pub(crate) fn make_levels(
+pub fn make_levels(
     rt: &HostRuntime,
     levels: &mut Option<AnyRegime>,
     made: Result<AnyRegime, Refusal>,
@@ -34,7 +34,7 @@ pub(crate) fn make_levels(
 
 // Prints whether the first level flows to the second. The guard stands here and in `tell_pick`: a helper that takes a
 // closure would be longer.
-pub(crate) fn tell_flows(
+pub fn tell_flows(
     rt: &HostRuntime,
     levels: Option<AnyRegime>,
     from: usize,
@@ -63,7 +63,7 @@ fn set_of(mask: usize) -> ReadySet {
 }
 
 // Prints who moves at that place, of the levels in the mask.
-pub(crate) fn tell_pick(
+pub fn tell_pick(
     rt: &HostRuntime,
     levels: Option<AnyRegime>,
     place: usize,

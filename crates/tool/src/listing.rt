@@ -140,7 +140,7 @@ fn list_script(rt: &HostRuntime, script: &Script) -> io::Result<()> {
 }
 
 // A listing has several lines, and a blank one ends it.
-pub(crate) fn list_file(rt: &HostRuntime, file: &[u8]) -> io::Result<()> {
+pub fn list_file(rt: &HostRuntime, file: &[u8]) -> io::Result<()> {
     match read_script(file) {
         Ok(script) => list_script(rt, &script)?,
         Err(fault) => list_fault(rt, fault)?,

@@ -54,7 +54,7 @@ impl fmt::Display for Placed {
 }
 
 // A line to a plain run. What only a host or a visit could answer is unmade.
-pub(crate) fn answer_run(rt: &HostRuntime, run: &mut PlainRun, command: Command) -> io::Result<()> {
+pub fn answer_run(rt: &HostRuntime, run: &mut PlainRun, command: Command) -> io::Result<()> {
     match command {
         Command::Give(channel) => tell_done(rt, "given", run.give(capped_byte(channel))),
         Command::Add(channel, value) => tell_done(

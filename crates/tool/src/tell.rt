@@ -3,12 +3,12 @@ use refusal::Refusal;
 use std::{fmt, io};
 
 // Prints `refused` and the refusal's number.
-pub(crate) fn refuse(rt: &HostRuntime, refusal: Refusal) -> io::Result<()> {
+pub fn refuse(rt: &HostRuntime, refusal: Refusal) -> io::Result<()> {
     println!(rt; "refused {}", refusal.number())
 }
 
 // Prints that word and the value, or the refusal.
-pub(crate) fn tell<T: fmt::Display + Copy>(
+pub fn tell<T: fmt::Display + Copy>(
     rt: &HostRuntime,
     word: &str,
     answer: Result<T, Refusal>,
@@ -20,11 +20,7 @@ pub(crate) fn tell<T: fmt::Display + Copy>(
 }
 
 // Prints that word alone, or the refusal. A function of its own, since `()` has no text.
-pub(crate) fn tell_done(
-    rt: &HostRuntime,
-    word: &str,
-    answer: Result<(), Refusal>,
-) -> io::Result<()> {
+pub fn tell_done(rt: &HostRuntime, word: &str, answer: Result<(), Refusal>) -> io::Result<()> {
     match answer {
         Ok(()) => println!(rt; "{word}"),
         Err(refusal) => refuse(rt, refusal),

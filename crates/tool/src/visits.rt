@@ -89,7 +89,7 @@ impl fmt::Display for Tally {
     }
 }
 
-pub(crate) fn tell_feed<H: Host>(
+pub fn tell_feed<H: Host>(
     rt: &HostRuntime,
     visit: &mut Visit<AnyRegime, H>,
     channel: usize,
@@ -98,7 +98,7 @@ pub(crate) fn tell_feed<H: Host>(
     tell_done(rt, "fed", visit.feed(capped_byte(channel), value))
 }
 
-pub(crate) fn tell_collect<H: Host>(
+pub fn tell_collect<H: Host>(
     rt: &HostRuntime,
     visit: &mut Visit<AnyRegime, H>,
     channel: usize,
@@ -106,10 +106,7 @@ pub(crate) fn tell_collect<H: Host>(
     tell(rt, "collected", visit.collect(capped_byte(channel)))
 }
 
-pub(crate) fn tell_turn<H: Host>(
-    rt: &HostRuntime,
-    visit: &mut Visit<AnyRegime, H>,
-) -> io::Result<()> {
+pub fn tell_turn<H: Host>(rt: &HostRuntime, visit: &mut Visit<AnyRegime, H>) -> io::Result<()> {
     match visit.turn() {
         Ok(None) => println!(rt; "nobody"),
         Ok(Some(Moved { level, act })) => println!(rt; "moved {level} {}", Acted(act)),
@@ -117,7 +114,7 @@ pub(crate) fn tell_turn<H: Host>(
     }
 }
 
-pub(crate) fn tell_turns<H: Host>(
+pub fn tell_turns<H: Host>(
     rt: &HostRuntime,
     visit: &mut Visit<AnyRegime, H>,
     count: usize,
@@ -129,7 +126,7 @@ pub(crate) fn tell_turns<H: Host>(
     println!(rt; "turns {count} {tally}")
 }
 
-pub(crate) fn tell_standing<H: Host>(
+pub fn tell_standing<H: Host>(
     rt: &HostRuntime,
     visit: &Visit<AnyRegime, H>,
     level: usize,
