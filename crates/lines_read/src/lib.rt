@@ -6,7 +6,7 @@ mod tests {
     use console::command::Command;
     use text::error::LineError;
     use text::lines::parse_line;
-    use text::words::Words;
+    use text::words::{Words, given};
     use verb::{HostKind, Verb};
 
     #[test]
@@ -71,7 +71,7 @@ mod tests {
         assert_eq!(rt; bytes.as_slice(), [10, 255].as_slice());
     }
 
-    // A line of a console of another.
+    // A command of another's console.
     fn numbered(name: &[u8], words: &mut Words) -> Result<(usize, usize), LineError> {
         match name {
             b"two" => Ok((words.number()?, words.number()?)),
@@ -97,6 +97,14 @@ mod tests {
             parse_line(rt.alloc(), b"one 3", numbered),
             Err(LineError::Unknown)
         );
+        let Ok(Some(capacities)) = parse_line(
+            rt.alloc(),
+            b"host 4 5",
+            |_, words| words.capacities(rt.alloc()),
+        ) else {
+            return assert!(rt; false, "capacities");
+        };
+        assert_eq!(rt; given(&[4, 5, 0, 6]), capacities.as_slice());
     }
 
     #[test]

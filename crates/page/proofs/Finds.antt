@@ -1,5 +1,8 @@
--- The lowest member, as it is looked for: from below, one level after another. Assumes nothing.
-use Rattle.std.proofs.Common.{◌≡◌, ℕ, zero, suc, ◌+◌, ◌-◌, ◌<◌, ◌≤◌, Bool, true, false, cond, Option, Some, None, sym, subst, refl, ⊎_elim, arith}
+-- The lowest member, as it is looked for: from below, one level after another, by a loop or by `find`. Assumes nothing.
+use Rattle.std.proofs.Common.{◌≡◌, ℕ, zero, suc, ◌+◌, ◌-◌, ◌<◌, ◌≤◌, length, Bool, true, false, cond, Option, Some, None, get_or, sym, ◌∙◌, subst, refl, ⊎_elim, arith}
+use Rattle.std.specs.List.{range_with_len, AllWithin, HoldsAt}
+use Rattle.std.specs.Option.{MatchOption}
+use Rattle.std.proofs.lemmas.List.FromFn.{length-range_with_len, get_or-range_with_len}
 use Rattle.std.proofs.lemmas.Bool.{cases_lt}
 use Rattle.regime.specs.Order.{Levels}
 use Rattle.page.specs.Ladder.{Lowest, lowest}
@@ -42,3 +45,19 @@ lowest_first n s =
     let q : 0 + n ≡ n = omega arith in
     let p : n ≡ n - 0 = omega arith in
     sym (lowest_is n s _ (subst (λ m. Lowest n s (first_from 0 m s)) p (subst (λ m. Lowest m s (first_from 0 n s)) q (first_lowest n 0 s (λ b l. absurd (omega arith))))))
+
+-- the number at a place of the numbers below n
+at : (n a : ℕ) → a < n → get_or (range_with_len 0 n) a 0 ≡ a
+at n a l = get_or-range_with_len 0 n a 0 l ∙ omega arith
+
+-- what holds of the first k of them holds of all numbers below k
+below : (P : ℕ → Type 0) (n k : ℕ) → k ≤ n → AllWithin P (range_with_len 0 n) 0 k → (a : ℕ) → a < k → P a
+below P n k h w a l = subst P (at n a (omega arith)) (w a 0 (omega arith) l)
+
+-- what `find` over the numbers below n answers is the lowest member
+pub lowest_from_first : (n : ℕ) (s : Levels) (r : Option ℕ) → MatchOption r (AllWithin (λ x. s x ≡ false) (range_with_len 0 n) 0 (length (range_with_len 0 n))) (λ x. (s x ≡ true) × (i : ℕ) × (i < length (range_with_len 0 n)) × HoldsAt (λ y. y ≡ x) (range_with_len 0 n) i × AllWithin (λ x. s x ≡ false) (range_with_len 0 n) 0 i) → Lowest n s r
+lowest_from_first n s None h = below (λ x. s x ≡ false) n n (omega arith) (rw length-range_with_len at h)
+lowest_from_first n s (Some x) h =
+    let l : h.1 < n = omega (arith, length-range_with_len 0 n, h.2) in
+    let e : h.1 ≡ x = sym (at n h.1 l) ∙ h.3 0 in
+    (rw e at l, h.0, subst (λ k. (b : ℕ) → b < k → s b ≡ false) e (below (λ x. s x ≡ false) n h.1 (omega arith) h.4))

@@ -1,6 +1,7 @@
 pub mod Counts
 pub mod Cuts
 pub mod Digits
+pub mod Entries
 pub mod Given
 pub mod HexTexts
 pub mod Hexes

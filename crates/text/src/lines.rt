@@ -14,9 +14,9 @@ pub fn is_comment(word: &[u8]) -> bool
     matches!(word, [b'#', ..])
 }
 
-// What `read` makes of a line's name and of all words after it; nothing if the line is blank or for people.
-// For a maker's own console. The one of the tool reads its lines itself, and asks nothing of its caller. No heap is
-// used: it is for what `read` makes of the words, which is handed it by whoever made `read`.
+// What `read` makes of a line's name and of all words after it; nothing if the line is blank or for people. For consoles of
+// others: the tool's reads its lines itself. The heap is not used, since the words hold none and `read` brings its own; it
+// stays so that calls stay as they were.
 pub fn parse_line<C: Drop, F: FnOnce(&[u8], &mut Words) -> Result<C, LineError>>(
     _heap: Global,
     line: &[u8],

@@ -118,15 +118,15 @@ fn given_count(table: &[u16]) -> usize
         .unwrap_or(table.len())
 }
 
-// The entries before the first that is 0.
+// The entries of a table before the first that is 0: of a table of capacities, those that a line gave.
 #[tactic(auto, using(crate::proofs::Given::all_before))]
-fn given(table: &[u16]) -> &[u16]
+pub fn given(table: &[u16]) -> &[u16]
     ensures { result.now ≡ before_zero table.now }
 {
     &table[..given_count(table)]
 }
 
-// A list of them, if the table could be read.
+// The entries that a table was given, as a list on the heap, if the table could be read.
 fn list_of(heap: Global, table: Result<[u16; 16], LineError>) -> Result<Vec<u16>, LineError>
     ensures { Listed vec_items table result }
 {
@@ -249,7 +249,7 @@ impl<'a> Words<'a> {
         self.entries(capacity_of)
     }
 
-    // Those that are given, in a list on the heap.
+    // The capacities that the next words are, 16 of them at most, as a list on the heap.
     pub fn capacities(&mut self, heap: Global) -> Result<Vec<u16>, LineError>
         ensures { Takes vec_items (entries_from capacity_of 16 (left self.old)) result (left self.new) }
     {

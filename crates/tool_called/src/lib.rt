@@ -1,5 +1,5 @@
-// Whoever answers lines of their own by the tool's functions calls them one by one: what they print is under no contract,
-// and that they print it where the output takes it is a test.
+// What the tool's functions print is under no contract. Here those of which its answers are made are called by themselves, as
+// a tool of others calls them, and succeed.
 #![tactic(auto)]
 
 #[cfg(test)]
