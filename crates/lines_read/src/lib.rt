@@ -85,10 +85,7 @@ mod tests {
             parse_line(rt.alloc(), b" two 3 7 ", numbered),
             Ok(Some((3, 7)))
         );
-        assert_eq!(rt;
-            parse_line(rt.alloc(), b"# two 3 7", numbered),
-            Ok(None)
-        );
+        assert_eq!(rt; parse_line(rt.alloc(), b"# two 3 7", numbered), Ok(None));
         assert_eq!(rt;
             parse_line(rt.alloc(), b"two 3 7 8", numbered),
             Err(LineError::Extra)
